@@ -1,0 +1,2 @@
+-- Answers, and the table of their numbers.
+pub mod Table
