@@ -1,0 +1,26 @@
+-- What the checked calls' definitions answer, by the test that decides.
+-- Assumes nothing.
+use mathlib.Core.Path.{_≡_, refl, ap, _∙_}
+use mathlib.Core.Bool.{cond}
+use Prim.Native.Nat.{ℕ, _<_, _≤_}
+use borrow.Author.Tests.{le-ltb, lt-ltb, ne-eqb}
+use Rattle.answer.specs.Table.{not-below-modulus, inverse-of-zero}
+use Rattle.field.specs.declared.FieldAnswer.{FieldAnswer}
+use Rattle.field.specs.Modular.{p, invMod}
+use Rattle.field.specs.Checked.{checked, refusal, success, inverseAnswer}
+
+pub refused : (a : ℕ) (answer : FieldAnswer) → p ≤ a → checked a answer ≡ refusal not-below-modulus
+unfolding checked
+refused a answer h = simp (le-ltb _ _ h)
+
+pub passed : (a : ℕ) (answer : FieldAnswer) → a < p → checked a answer ≡ answer
+unfolding checked
+passed a answer h = simp (lt-ltb _ _ h)
+
+pub inverse-zero : (a : ℕ) → a ≡ 0 → inverseAnswer a ≡ refusal inverse-of-zero
+unfolding inverseAnswer checked
+inverse-zero a h = ap inverseAnswer h ∙ refl
+
+pub inverse-other : {a v : ℕ} {r : FieldAnswer} → (a ≡ 0 → ⊥) → v ≡ invMod a → r ≡ checked a (success v) → r ≡ inverseAnswer a
+unfolding inverseAnswer
+inverse-other {a} h e f = f ∙ simp (ne-eqb a 0 h, e)

@@ -1,0 +1,13 @@
+-- `Felt::difference` meets its contract: the value of `sub`, once the arguments are judged.
+-- Assumes nothing.
+use borrow.Author.Needs.{needs}
+use Rattle.field.specs.Checked.{differenceAnswer}
+use Rattle.field.proofs.Felt.difference.Statement.{statement}
+use Rattle.field.proofs.Felt.difference.Tie as tie
+
+returns : tie.Need-returns
+unfolding differenceAnswer
+returns c = cc
+
+pub difference-spec : {M : Type 1} → statement M
+difference-spec = tie.close (tie.spec (λ c κs. search needs) (λ c κs. search needs) returns)

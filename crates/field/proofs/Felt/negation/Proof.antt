@@ -1,0 +1,13 @@
+-- `Felt::negation` meets its contract: the value of `neg`, once the arguments are judged.
+-- Assumes nothing.
+use borrow.Author.Needs.{needs}
+use Rattle.field.specs.Checked.{negationAnswer}
+use Rattle.field.proofs.Felt.negation.Statement.{statement}
+use Rattle.field.proofs.Felt.negation.Tie as tie
+
+returns : tie.Need-returns
+unfolding negationAnswer
+returns c = cc
+
+pub negation-spec : {M : Type 1} → statement M
+negation-spec = tie.close (tie.spec (λ c κs. search needs) (λ c κs. search needs) returns)

@@ -1,0 +1,13 @@
+-- `Felt::power` meets its contract: the value of `pow`, once the arguments are judged.
+-- Assumes nothing.
+use borrow.Author.Needs.{needs}
+use Rattle.field.specs.Checked.{powerAnswer}
+use Rattle.field.proofs.Felt.power.Statement.{statement}
+use Rattle.field.proofs.Felt.power.Tie as tie
+
+returns : tie.Need-returns
+unfolding powerAnswer
+returns c = cc
+
+pub power-spec : {M : Type 1} → statement M
+power-spec = tie.close (tie.spec (λ c κs. search needs) (λ c κs. search needs) returns)

@@ -1,0 +1,13 @@
+-- `Felt::product` meets its contract: the value of `mul`, once the arguments are judged.
+-- Assumes nothing.
+use borrow.Author.Needs.{needs}
+use Rattle.field.specs.Checked.{productAnswer}
+use Rattle.field.proofs.Felt.product.Statement.{statement}
+use Rattle.field.proofs.Felt.product.Tie as tie
+
+returns : tie.Need-returns
+unfolding productAnswer
+returns c = cc
+
+pub product-spec : {M : Type 1} → statement M
+product-spec = tie.close (tie.spec (λ c κs. search needs) (λ c κs. search needs) returns)

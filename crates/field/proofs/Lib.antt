@@ -1,0 +1,11 @@
+-- The laws of the field. Other crates cite `Laws`, `Inverse` and `Subgroup`.
+pub mod Remainder
+pub mod Laws
+pub mod CheckedLaws
+pub mod Squares
+pub mod Order
+pub mod Pigeonhole
+pub mod Inverse
+pub mod Table
+pub mod Subgroup
+pub mod Ring
