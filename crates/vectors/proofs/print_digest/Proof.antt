@@ -1,0 +1,30 @@
+-- `vectors::print_digest` is safe and ends.
+-- Assumes nothing.
+use Prim.Native.Nat.{_-_, _≤_}
+use native.Mathlib.Omega.{arith}
+use borrow.Author.Needs.{needs}
+use Rattle.vectors.proofs.print_digest.Statement.{statement}
+use Rattle.vectors.proofs.print_digest.Tie as tie
+
+abbrev Inv-loop : tie.InvT-loop
+Inv-loop digest i₀ t4 i = i ≤ 32
+
+abbrev μ-loop : tie.MeasureT-loop
+μ-loop digest i₀ t4 i = 32 - i
+
+pub print-digest-spec : {M : Type 1} → statement M
+print-digest-spec =
+    tie.close
+    (tie.spec
+    Inv-loop
+    μ-loop
+    (λ c. omega arith)
+    (λ c. omega arith)
+    (λ c κs. search needs)
+    (λ c κs. search needs)
+    (λ c. omega arith)
+    (λ c. omega arith)
+    (λ c. omega arith)
+    (λ c. search needs)
+    (λ c κs. search needs)
+    (λ c. search needs))

@@ -1,0 +1,2 @@
+-- The Monte test of SHA-256.
+pub mod Monte
