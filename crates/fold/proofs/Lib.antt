@@ -1,0 +1,4 @@
+-- Laws of the fold.
+pub mod PolyLaws
+pub mod FoldLaws
+pub mod FoldCheck

@@ -1,0 +1,65 @@
+-- Numbers as bytes, low byte first, and back. Assumes nothing.
+use Prim.Native.Nat.{ℕ, zero, suc, _+_, _*_, _^_, _%_, _<_, _≤_, _/_}
+use mathlib.Core.List.{List, [], _∷_}
+use mathlib.Core.Path.{_≡_, refl, ap, sym, _∙_, ap₂}
+use native.Mathlib.Nat.{pow-suc, pow-zero, mod-eq-of-lt, mod-one, zero-lt-suc, one-le-pow}
+use native.Mathlib.Omega.{arith}
+use lib.Arith.{mod-mul}
+use lib.ListN.{length, getD, take, drop}
+use lib.Seq.{drop-cons}
+use Rattle.message.specs.Bytes.{le, num}
+
+pub le-length : (w v : ℕ) → length (le w v) ≡ w
+unfolding le
+le-length zero v = refl
+le-length (suc w) v = ap suc (le-length w (v / 256))
+
+pub num-le : (w v : ℕ) → num (le w v) ≡ v % 256 ^ w
+unfolding le num
+num-le zero v = rw (pow-zero 256) (sym (mod-one v))
+num-le (suc w) v = rw (num-le w (v / 256), pow-suc 256 w, mod-mul v (one-le-pow w 256 (omega arith)) (zero-lt-suc 255)) (omega arith)
+
+-- Writing and reading back, for a number that fits.
+pub num-le-below : (w v : ℕ) → v < 256 ^ w → num (le w v) ≡ v
+num-le-below w v h = num-le w v ∙ mod-eq-of-lt h
+
+pub data Bytes : List ℕ → Type 0 where
+  none : Bytes []
+  more : {b : ℕ} {bs : List ℕ} → b < 256 → Bytes bs → Bytes (b ∷ bs)
+
+-- Reading and writing back: two files never have one meaning.
+pub le-num : {bs : List ℕ} → Bytes bs → le (length bs) (num bs) ≡ bs
+unfolding le num
+le-num none = refl
+le-num (more {b} {bs} h r) = ap₂ (λ u v. u ∷ v) (omega arith) (ap (λ u. le (length bs) u) (omega arith) ∙ le-num r)
+
+-- The same where the length has a name.
+pub taken-number : {w : ℕ} {bs : List ℕ} → length bs ≡ w → Bytes bs → bs ≡ le w (num bs)
+taken-number {w} {bs} e h = sym (le-num h) ∙ ap (λ u. le u (num bs)) e
+
+-- Each of some bytes is below 256, and a part of them is bytes.
+pub bytes-below : {bs : List ℕ} → Bytes bs → (i : ℕ) → i < length bs → getD bs i 0 < 256
+bytes-below none i h = absurd (omega arith)
+bytes-below (more b r) zero h = b
+bytes-below (more b r) (suc i) h = bytes-below r i (omega arith)
+
+pub take-bytes : {xs : List ℕ} → Bytes xs → (w : ℕ) → Bytes (take w xs)
+take-bytes h zero = none
+take-bytes none (suc w) = none
+take-bytes (more h r) (suc w) = more h (take-bytes r w)
+
+pub drop-bytes : {xs : List ℕ} → Bytes xs → (w : ℕ) → Bytes (drop w xs)
+drop-bytes h zero = h
+drop-bytes none (suc w) = none
+drop-bytes (more h r) (suc w) = drop-bytes r w
+
+-- The number in n + 1 bytes from byte i on, by its first byte.
+pub num-front : (d : List ℕ) (i n : ℕ) → i < length d → num (take (suc n) (drop i d)) ≡ getD d i 0 + 256 * num (take n (drop (suc i) d))
+unfolding num
+num-front d i n h = rw (drop-cons d i 0 h)
+
+-- The number in the first 4 bytes.
+pub num-four : (d : List ℕ) → 4 ≤ length d → num (take 4 d) ≡ getD d 0 0 + 256 * (getD d 1 0 + 256 * (getD d 2 0 + 256 * getD d 3 0))
+unfolding num
+num-four d h =
+    rw (num-front d 0 3 (omega arith), num-front d 1 2 (omega arith), num-front d 2 1 (omega arith), num-front d 3 0 (omega arith)) (omega arith)

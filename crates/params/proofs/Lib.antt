@@ -1,0 +1,2 @@
+-- Laws of parameters and lengths.
+pub mod ParameterLaws

@@ -1,0 +1,57 @@
+-- The transcript's messages as tagged messages, its numbers, and one root more.
+-- Assumes nothing.
+use Prim.Native.Nat.{ℕ, _+_, _*_, _^_, _%_, _≤_, _<_}
+use mathlib.Core.List.{List, [], _∷_, _++_, append-nil}
+use mathlib.Core.Path.{_≡_, refl, sym}
+use native.Mathlib.Nat.{one-mul, mod-eq-of-lt, pow-le-pow-right}
+use native.Mathlib.Omega.{arith}
+use lib.ListN.{length, take}
+use Rattle.sha256.specs.Sha256.{sha256}
+use Rattle.field.specs.Modular.{p}
+use Rattle.message.specs.Bytes.{num, words}
+use Rattle.message.specs.Message.{Digest, taggedHash}
+use Rattle.message.proofs.MessageLaws.{tagged-short, words-length}
+use Rattle.transcript.specs.Transcript.{start, absorb, challenge, finish, drawn, absorbed}
+
+pub tagged-start : (header context : List ℕ) → length header ≤ 32 → length context ≡ 32 → taggedHash 0x10 header context ≡ start sha256 header context
+unfolding start
+tagged-start header context h k = tagged-short 0x10 header context (omega arith)
+
+pub tagged-absorb : (s root : Digest) → length s ≡ 32 → length root ≡ 32 → taggedHash 0x11 s root ≡ absorb sha256 s root
+unfolding absorb
+tagged-absorb s root h k = tagged-short 0x11 s root (omega arith)
+
+pub tagged-finish : (s : Digest) (coefficients : List ℕ) → length s ≡ 32 → length coefficients ≤ 64 → taggedHash 0x12 s (words coefficients) ≡ finish sha256 s coefficients
+unfolding finish
+tagged-finish s coefficients h k = tagged-short 0x12 s (words coefficients) (omega (arith, words-length coefficients))
+
+pub tagged-challenge : {d : Digest} {v r : ℕ} (s : Digest) → length s ≡ 32 → d ≡ taggedHash 0x13 s [] → v ≡ num (take 4 d) → r ≡ v % p → r ≡ challenge sha256 s
+unfolding challenge
+tagged-challenge s h e v r =
+    let long : length s + 0 ≤ 288 = omega arith in
+    rw (r, v, e, tagged-short 0x13 s [] long, append-nil s)
+
+pub tagged-drawn : {d : Digest} {v r b : ℕ} (s : Digest) (bits i : ℕ) → length s ≡ 32 → d ≡ taggedHash 0x14 s (i ∷ []) → v ≡ num (take 4 d) → b ≡ bits → r ≡ v % 2 ^ b
+    → r ≡ drawn sha256 s bits i
+unfolding drawn
+tagged-drawn s bits i h e v b r =
+    let long : length s + 1 ≤ 288 = omega arith in
+    rw (r, v, e, b, tagged-short 0x14 s (i ∷ []) long)
+
+-- 2^bits as a shift computes it, and a number below it.
+pub shifted : (bits : ℕ) → bits < 32 → 1 * 2 ^ bits % 18446744073709551616 ≡ 2 ^ bits
+shifted bits h =
+    let small : 2 ^ bits ≤ 2 ^ 31 = pow-le-pow-right {n = 2} (omega arith) {i = bits} {j = 31} (omega arith) in
+    rw one-mul (mod-eq-of-lt (omega arith))
+
+pub whole : (v bits : ℕ) → v < 2 ^ 32 → 32 ≤ bits → v ≡ v % 2 ^ bits
+whole v bits h k =
+    let large : 2 ^ 32 ≤ 2 ^ bits = pow-le-pow-right {n = 2} (omega arith) {i = 32} {j = bits} k in
+    sym (mod-eq-of-lt (omega arith))
+
+-- One root more, at the end.
+pub absorbed-snoc : (hash : List ℕ → Digest) (s : Digest) (roots : List Digest) (r : Digest)
+    → absorbed hash s (roots ++ (r ∷ [])) ≡ absorb hash (absorbed hash s roots) r
+unfolding absorbed
+absorbed-snoc hash s [] r = refl
+absorbed-snoc hash s (q ∷ roots) r = absorbed-snoc hash (absorb hash s q) roots r
