@@ -1,0 +1,5 @@
+-- A proof file: its layout, its judgement, and what an accepted one is.
+pub mod Process
+pub mod Encoding
+pub mod Judge
+pub mod Accepted
