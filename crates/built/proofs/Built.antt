@@ -1,0 +1,54 @@
+-- The proof built from any polynomial of at most 2^(n−b) coefficients is accepted: for any hash of 32 bytes, and for SHA-256.
+-- Assumes nothing.
+use Prim.Native.Nat.{ℕ, _^_, _-_, _<_, _≤_}
+use mathlib.Core.List.{List, []}
+use mathlib.Core.Path.{_≡_, refl}
+use native.Mathlib.Omega.{arith}
+use lib.ListN.{length, getD}
+use Rattle.answer.specs.Table.{answered, accepted}
+use Rattle.sha256.specs.Sha256.{sha256}
+use Rattle.sha256.proofs.HashLaws.{length-sha256, sha256-byte}
+use Rattle.message.specs.Message.{Digest}
+use Rattle.params.specs.declared.Params.{Params}
+use Rattle.params.specs.Parameters.{Valid, fileLength}
+use Rattle.fri.specs.Judge.{verdict}
+use Rattle.fri.specs.Accepted.{Accepted}
+use Rattle.fri.proofs.Exactly.{accepted-verdict}
+use Rattle.built.specs.Built.{build, builtFile}
+use Rattle.built.proofs.BuiltLayout.{built-layout}
+use Rattle.built.proofs.Holds.{built-proof-holds}
+
+module _
+    (hash : List ℕ → Digest)
+    (size : (xs : List ℕ) → length (hash xs) ≡ 32)
+    (below : (xs : List ℕ) (i : ℕ) → i < 32 → getD (hash xs) i 0 < 256) where
+  -- A fold reduces its coefficients, so those of f may even be above the modulus.
+  pub built-holds : (p : Params) (context f : List ℕ) → Valid p → length f ≤ 2 ^ (p .n - p .b)
+      → Accepted hash p context (builtFile hash p context f)
+  unfolding builtFile
+  built-holds p context f v short =
+      record {
+        proof = build hash p context f;
+        layout = built-layout hash size below p context f v short;
+        bytes = refl;
+        holds = built-proof-holds hash p context f v;
+      }
+
+-- With SHA-256 the built file is what an accepted file is, and so the verdict accepts it, at its length L.
+pub built-is-accepted : (p : Params) (context f : List ℕ) → Valid p → length f ≤ 2 ^ (p .n - p .b)
+    → Accepted sha256 p context (builtFile sha256 p context f)
+built-is-accepted = built-holds sha256 length-sha256 sha256-byte
+
+pub built-accepted : (p : Params) (context f : List ℕ) → Valid p → length f ≤ 2 ^ (p .n - p .b)
+    → verdict sha256 p context (builtFile sha256 p context f) ≡ answered accepted (fileLength p)
+built-accepted p context f v short = accepted-verdict sha256 p context (builtFile sha256 p context f) v (built-is-accepted p context f v short)
+
+-- The zero polynomial's proof is accepted.
+pub zero-accepted : (p : Params) (context : List ℕ) → Valid p
+    → verdict sha256 p context (builtFile sha256 p context []) ≡ answered accepted (fileLength p)
+zero-accepted p context v = built-accepted p context [] v (omega arith)
+
+-- For valid parameters and any context some bytes are accepted, so a reader that refuses everything does not answer the verdict.
+pub refusing-all-fails : (p : Params) (context : List ℕ) → Valid p
+    → (file : List ℕ) × (verdict sha256 p context file ≡ answered accepted (fileLength p))
+refusing-all-fails p context v = (builtFile sha256 p context [], zero-accepted p context v)

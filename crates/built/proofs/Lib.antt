@@ -1,0 +1,6 @@
+-- The proof built from a polynomial is accepted.
+pub mod Tabulate
+pub mod Layers
+pub mod BuiltLayout
+pub mod Holds
+pub mod Built

@@ -1,0 +1,2 @@
+-- The proof built from a polynomial.
+pub mod Built
