@@ -1,0 +1,2 @@
+-- The claim over all worked examples.
+pub mod Hold
