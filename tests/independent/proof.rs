@@ -1,0 +1,191 @@
+//! Building a proof from a polynomial, as document 01 describes it.
+
+use crate::domain::{leaf_of, Coset};
+use crate::field::{add, mul, sub, P};
+use crate::fold::fold_coefficients;
+use crate::merkle::{leaf, Tree};
+use crate::params::Params;
+use crate::sha256::Digest;
+use crate::transcript::Transcript;
+
+/// One layer: the values at all its points, and the tree over their pairs.
+pub struct Layer {
+    values: Vec<u32>,
+    tree: Tree,
+}
+
+impl Layer {
+    pub fn new(values: Vec<u32>) -> Layer {
+        let (first, second) = values.split_at(values.len() / 2);
+        let tree = Tree::new(
+            first
+                .iter()
+                .zip(second)
+                .map(|(&a, &c)| leaf(a, c))
+                .collect(),
+        );
+        Layer { values, tree }
+    }
+}
+
+/// The proof for a polynomial of at most 2^(n−b) coefficients.
+pub fn build(params: Params, context: &Digest, polynomial: &[u32]) -> Vec<u8> {
+    assert!(params.valid(), "parameters not valid");
+    let full_size = 1 << (params.n - params.b);
+    assert!(polynomial.len() <= full_size, "too many coefficients");
+    assert!(polynomial.iter().all(|&coefficient| coefficient < P));
+
+    let mut polynomial = polynomial.to_vec();
+    polynomial.resize(full_size, 0);
+    let mut transcript = Transcript::start(params, context);
+    let mut layers = Vec::new();
+    for j in 0..params.k {
+        let layer = Layer::new(layer_values(&polynomial, params.n, j));
+        transcript.absorb_root(&layer.tree.root());
+        polynomial = fold_coefficients(&polynomial, transcript.challenge());
+        layers.push(layer);
+    }
+    assemble(params, transcript, &layers, &polynomial)
+}
+
+/// The bytes of a proof from its layers and final coefficients. The transcript
+/// has absorbed the layers' roots. Nothing is checked here, so that tests can
+/// also assemble proofs that must be refused.
+pub fn assemble(
+    params: Params,
+    mut transcript: Transcript,
+    layers: &[Layer],
+    final_coefficients: &[u32],
+) -> Vec<u8> {
+    let Params { n, b, k, q } = params;
+    let mut bytes = Vec::with_capacity(params.file_length());
+
+    push_count(&mut bytes, 4);
+    bytes.extend([n, b, k, q]);
+
+    push_count(&mut bytes, layers.len());
+    for layer in layers {
+        bytes.extend(layer.tree.root());
+    }
+
+    push_count(&mut bytes, final_coefficients.len());
+    for &coefficient in final_coefficients {
+        push_number(&mut bytes, coefficient);
+    }
+    transcript.absorb_final(final_coefficients);
+
+    push_count(&mut bytes, q as usize);
+    for query in 0..q {
+        let mut index = transcript.draw(params, query);
+        for (j, layer) in layers.iter().enumerate() {
+            let (leaf, _) = leaf_of(n, j as u8, index);
+            push_opening(&mut bytes, layer, leaf as usize);
+            index = leaf;
+        }
+    }
+    bytes
+}
+
+fn push_opening(bytes: &mut Vec<u8>, layer: &Layer, leaf: usize) {
+    let half = layer.values.len() / 2;
+    push_number(bytes, layer.values[leaf]);
+    push_number(bytes, layer.values[leaf + half]);
+    for sibling in layer.tree.path(leaf) {
+        bytes.extend(sibling);
+    }
+}
+
+fn push_count(bytes: &mut Vec<u8>, count: usize) {
+    bytes.extend((count as u16).to_le_bytes());
+}
+
+fn push_number(bytes: &mut Vec<u8>, number: u32) {
+    bytes.extend(number.to_le_bytes());
+}
+
+/// The polynomial's values at the points of a layer, in order.
+fn layer_values(polynomial: &[u32], n: u8, layer: u8) -> Vec<u32> {
+    let coset = Coset::of_layer(n, layer);
+    // The value at offset · w^i is the value at w^i of the polynomial whose
+    // coefficient t is multiplied by offset^t.
+    let mut scaled = Vec::with_capacity(1 << (n - layer));
+    let mut offset_power = 1;
+    for &coefficient in polynomial {
+        scaled.push(mul(coefficient, offset_power));
+        offset_power = mul(offset_power, coset.offset);
+    }
+    scaled.resize(1 << (n - layer), 0);
+    values_at_powers(&scaled, coset.generator)
+}
+
+/// The polynomial's values at 1, w, w², ..., for w of order the number of
+/// coefficients: f(y) = even(y²) + y·odd(y²), and w^(i + half) = −w^i.
+fn values_at_powers(coefficients: &[u32], w: u32) -> Vec<u32> {
+    if coefficients.len() == 1 {
+        return coefficients.to_vec();
+    }
+    let part = |skip| {
+        coefficients
+            .iter()
+            .skip(skip)
+            .step_by(2)
+            .copied()
+            .collect::<Vec<u32>>()
+    };
+    let even = values_at_powers(&part(0), mul(w, w));
+    let odd = values_at_powers(&part(1), mul(w, w));
+    let half = even.len();
+    let mut values = vec![0; 2 * half];
+    let mut power = 1;
+    for i in 0..half {
+        let term = mul(power, odd[i]);
+        values[i] = add(even[i], term);
+        values[i + half] = sub(even[i], term);
+        power = mul(power, w);
+    }
+    values
+}
+
+#[cfg(test)]
+mod tests {
+    use super::*;
+    use crate::domain::point;
+    use crate::fold::eval;
+    use crate::rng::Rng;
+
+    #[test]
+    fn layer_values_are_values_at_the_points() {
+        let mut rng = Rng::new(3);
+        for (n, layer, count) in [(2, 0, 2), (5, 0, 8), (5, 2, 3), (7, 3, 16), (8, 0, 1)] {
+            let polynomial = rng.elements(count);
+            let values = layer_values(&polynomial, n, layer);
+            assert_eq!(values.len(), 1 << (n - layer));
+            for (index, value) in values.into_iter().enumerate() {
+                assert_eq!(value, eval(&polynomial, point(n, layer, index as u32)));
+            }
+        }
+    }
+
+    #[test]
+    fn layout_of_the_document() {
+        let mut rng = Rng::new(4);
+        let bytes = build(Params::new(4, 2, 1, 2), &rng.digest(), &rng.elements(4));
+        assert_eq!(bytes.len(), 260);
+        assert_eq!(bytes[..6], [4, 0, 4, 2, 1, 2]);
+        assert_eq!(bytes[6..8], [1, 0]);
+        assert_eq!(bytes[8 + 32..][..2], [2, 0]);
+        assert_eq!(bytes[8 + 32 + 2 + 8..][..2], [2, 0]);
+        assert_eq!(8 + 32 + 2 + 8 + 2 + 2 * (8 + 96), 260);
+    }
+
+    #[test]
+    fn missing_coefficients_are_zero() {
+        let mut rng = Rng::new(5);
+        let (params, context) = (Params::new(6, 2, 2, 3), rng.digest());
+        let mut polynomial = rng.elements(11);
+        let short = build(params, &context, &polynomial);
+        polynomial.resize(16, 0);
+        assert_eq!(short, build(params, &context, &polynomial));
+        assert_eq!(build(params, &context, &[]), build(params, &context, &[0]));
+    }
+}
