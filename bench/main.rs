@@ -1,0 +1,243 @@
+//! The proved calls beside ordinary Rust, in time.
+
+mod ours;
+mod table;
+
+use peers::answer::Answer;
+use peers::fold;
+use peers::rng::Rng;
+use peers::sha256::Digest;
+use peers::Coefficients;
+use table::{Batch, Sides, Table};
+
+fn main() {
+    let mut table = Table::default();
+    let mut rng = Rng::new(1);
+    hashes(&mut table, &mut rng);
+    trees(&mut table, &mut rng);
+    challenges(&mut table, &mut rng);
+    products(&mut table, &mut rng);
+    powers(&mut table, &mut rng);
+    inverses(&mut table, &mut rng);
+    points(&mut table, &mut rng);
+    evaluations(&mut table, &mut rng);
+    folds(&mut table, &mut rng);
+
+    let wanted: Vec<String> = std::env::args().skip(1).collect();
+    if !wanted.is_empty() {
+        table.keep(&wanted);
+    }
+    table.time();
+    table.print();
+}
+
+const NO_DIGEST: Digest = [0; 32];
+
+/// Inputs of the calls that branch on their bits: so many that the processor
+/// does not know the branches from the round before.
+const BRANCHING: usize = 2048;
+
+fn hash_batch(messages: Vec<Vec<u8>>) -> Batch {
+    type Call = unsafe extern "C" fn(*const u8, usize, &mut Digest) -> Answer;
+    let sides = Sides::<Call> {
+        ours: ours::test_hash,
+        peer: peers::hash,
+    };
+    let blank = (Answer::DONE, NO_DIGEST);
+    Batch::each(sides, messages, blank, |call, message, (answer, digest)| {
+        // The pointer and the length are those of one slice.
+        *answer = unsafe { call(message.as_ptr(), message.len(), digest) };
+    })
+}
+
+fn hashes(table: &mut Table, rng: &mut Rng) {
+    for (name, length, count) in [
+        ("SHA-256 of 4,096 bytes", 4096, 4),
+        ("SHA-256 of 65 bytes", 65, 128),
+        ("SHA-256 of 9 bytes", 9, 256),
+    ] {
+        let messages = (0..count).map(|_| rng.bytes(length)).collect();
+        table.row(name, hash_batch(messages));
+    }
+}
+
+fn node_batch(children: Vec<[Digest; 2]>) -> Batch {
+    type Call = extern "C" fn(&Digest, &Digest, &mut Digest);
+    let sides = Sides::<Call> {
+        ours: ours::test_node,
+        peer: peers::node,
+    };
+    Batch::each(sides, children, NO_DIGEST, |call, [left, right], digest| {
+        call(left, right, digest)
+    })
+}
+
+fn trees(table: &mut Table, rng: &mut Rng) {
+    type Call = extern "C" fn(u32, u32, &mut Digest);
+    let sides = Sides::<Call> {
+        ours: ours::test_leaf,
+        peer: peers::leaf,
+    };
+    let values = (0..256).map(|_| [rng.element(), rng.element()]).collect();
+    table.row(
+        "Merkle leaf",
+        Batch::each(sides, values, NO_DIGEST, |call, &[a, c], digest| {
+            call(a, c, digest)
+        }),
+    );
+
+    let children: Vec<[Digest; 2]> = (0..128).map(|_| [rng.digest(), rng.digest()]).collect();
+    table.row("Merkle node", node_batch(children.clone()));
+
+    let messages = children
+        .iter()
+        .map(|[left, right]| [&[1][..], left, right].concat())
+        .collect();
+    table.overhead(
+        "Merkle node over SHA-256 of its 65 bytes",
+        node_batch(children),
+        hash_batch(messages),
+    );
+}
+
+fn challenges(table: &mut Table, rng: &mut Rng) {
+    type Call = extern "C" fn(&Digest) -> u32;
+    let sides = Sides::<Call> {
+        ours: ours::test_challenge,
+        peer: peers::challenge,
+    };
+    let states = (0..256).map(|_| rng.digest()).collect();
+    table.row(
+        "challenge",
+        Batch::each(sides, states, 0, |call, state, challenge| {
+            *challenge = call(state)
+        }),
+    );
+}
+
+// A product takes no longer than a call. Neither side's is inlined, so the rows
+// compare a call and a product with a call and a product.
+fn products(table: &mut Table, rng: &mut Rng) {
+    const COUNT: usize = 4096;
+    type Call = extern "C" fn(u32, u32) -> u32;
+    let sides = Sides::<Call> {
+        ours: ours::test_mul,
+        peer: peers::mul,
+    };
+    let factors = rng.elements(COUNT);
+    table.row(
+        "product, dependent chain, each a call on both sides",
+        Batch::new(COUNT, sides, 1, move |call, product| {
+            *product = factors.iter().fold(1, |chain, &factor| call(chain, factor))
+        }),
+    );
+
+    let pairs = (0..COUNT).map(|_| [rng.element(), rng.element()]).collect();
+    table.row(
+        "product over slices, each a call on both sides",
+        Batch::each(sides, pairs, 0, |call, &[a, b], product| {
+            *product = call(a, b)
+        }),
+    );
+}
+
+fn powers(table: &mut Table, rng: &mut Rng) {
+    type Call = extern "C" fn(u32, u32) -> u32;
+    let sides = Sides::<Call> {
+        ours: ours::test_pow,
+        peer: peers::pow,
+    };
+    let pairs = (0..BRANCHING)
+        .map(|_| [rng.element(), rng.word()])
+        .collect();
+    table.row(
+        "power, exponents of 32 bits",
+        Batch::each(sides, pairs, 0, |call, &[a, e], power| *power = call(a, e)),
+    );
+}
+
+fn inverses(table: &mut Table, rng: &mut Rng) {
+    type Call = extern "C" fn(u32) -> u32;
+    let ours = ours::test_inv;
+    let numbers = rng.elements(BRANCHING);
+    let batch = |peer: Call| {
+        let sides = Sides::<Call> { ours, peer };
+        Batch::each(sides, numbers.clone(), 0, |call, &a, inverse| {
+            *inverse = call(a)
+        })
+    };
+    table.row("inverse; Rust by Euclid", batch(peers::inv));
+    table.row(
+        "inverse; Rust by the same power",
+        batch(peers::inv_by_power),
+    );
+}
+
+fn points(table: &mut Table, rng: &mut Rng) {
+    type Call = extern "C" fn(u8, u8, u32) -> u32;
+    /// The largest domain has 2^20 points and layers 0 to 11.
+    const N: u8 = 20;
+    let ours = ours::test_point;
+    for layer in [0, 11] {
+        let indices: Vec<u32> = (0..BRANCHING)
+            .map(|_| rng.below(1 << (N - layer)) as u32)
+            .collect();
+        let batch = |peer: Call| {
+            let sides = Sides::<Call> { ours, peer };
+            Batch::each(sides, indices.clone(), 0, move |call, &index, point| {
+                *point = call(N, layer, index)
+            })
+        };
+        table.row(
+            format!("point of layer {layer}; Rust without a table"),
+            batch(peers::point),
+        );
+        table.row(
+            format!("point of layer {layer}; Rust with the same table"),
+            batch(peers::point_by_table),
+        );
+    }
+}
+
+fn evaluations(table: &mut Table, rng: &mut Rng) {
+    type Call = extern "C" fn(&Coefficients, usize, u32) -> u32;
+    let sides = Sides::<Call> {
+        ours: ours::test_eval,
+        peer: peers::eval,
+    };
+    let coefficients: Coefficients = std::array::from_fn(|_| rng.element());
+    table.row(
+        "eval of 64 coefficients",
+        Batch::each(sides, rng.elements(128), 0, move |call, &x, value| {
+            *value = call(&coefficients, coefficients.len(), x)
+        }),
+    );
+}
+
+fn folds(table: &mut Table, rng: &mut Rng) {
+    type Call = extern "C" fn(u32, u32, u32, u32, u32) -> bool;
+    let ours = ours::test_agrees;
+    // Every second value is the folded one.
+    let cases: Vec<[u32; 5]> = (0..BRANCHING)
+        .map(|case| {
+            let [x, beta, a, c] = [0; 4].map(|_| rng.element().max(1));
+            let folded = fold::next(x, beta, a, c);
+            let v = if case % 2 == 0 { folded } else { rng.element() };
+            [x, beta, a, c, v]
+        })
+        .collect();
+    let batch = |peer: Call| {
+        let sides = Sides::<Call> { ours, peer };
+        Batch::each(
+            sides,
+            cases.clone(),
+            false,
+            |call, &[x, beta, a, c, v], agreed| *agreed = call(x, beta, a, c, v),
+        )
+    };
+    table.row("agrees; Rust by an inverse", batch(peers::agrees));
+    table.row(
+        "agrees; Rust by the same products",
+        batch(peers::agrees_by_products),
+    );
+}

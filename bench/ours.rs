@@ -1,0 +1,23 @@
+//! The linked library's calls, as they are timed. A slice is a pointer and a
+//! length there, and an array of fixed size is a pointer.
+
+use peers::answer::Answer;
+use peers::sha256::Digest;
+use peers::Coefficients;
+
+unsafe extern "C" {
+    /// The message must be readable for `len` bytes.
+    pub unsafe fn test_hash(message: *const u8, len: usize, out: &mut Digest) -> Answer;
+
+    pub safe fn test_leaf(a: u32, c: u32, out: &mut Digest);
+    pub safe fn test_node(left: &Digest, right: &Digest, out: &mut Digest);
+    pub safe fn test_challenge(state: &Digest) -> u32;
+
+    pub safe fn test_mul(a: u32, b: u32) -> u32;
+    pub safe fn test_pow(a: u32, e: u32) -> u32;
+    pub safe fn test_inv(a: u32) -> u32;
+
+    pub safe fn test_point(n: u8, layer: u8, index: u32) -> u32;
+    pub safe fn test_eval(coefficients: &Coefficients, count: usize, x: u32) -> u32;
+    pub safe fn test_agrees(x: u32, beta: u32, a: u32, c: u32, v: u32) -> bool;
+}

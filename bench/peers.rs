@@ -1,0 +1,130 @@
+//! The ordinary side: the functions of tests/independent behind the signatures
+//! of the linked library. None is inlined into its caller, because no call into
+//! the linked library can be. It is a library of its own, as the other side is,
+//! so that the compiler makes the same of it whatever the rows are.
+
+// The independent program's modules name each other from the root.
+#[path = "../tests/independent/answer.rs"]
+pub mod answer;
+#[path = "../tests/independent/domain.rs"]
+pub mod domain;
+#[path = "../tests/independent/field.rs"]
+pub mod field;
+#[path = "../tests/independent/fold.rs"]
+pub mod fold;
+#[path = "../tests/independent/merkle.rs"]
+pub mod merkle;
+#[path = "../tests/independent/params.rs"]
+pub mod params;
+#[path = "../tests/independent/rng.rs"]
+pub mod rng;
+#[path = "../tests/independent/sha256.rs"]
+pub mod sha256;
+#[path = "../tests/independent/transcript.rs"]
+pub mod transcript;
+
+use answer::Answer;
+use field::P;
+use sha256::{public_hash, Digest};
+use transcript::Transcript;
+
+/// Coefficients are lent as a whole array, with a count of those that matter.
+pub type Coefficients = [u32; 64];
+
+/// The message must be readable for `len` bytes.
+#[inline(never)]
+pub unsafe extern "C" fn hash(message: *const u8, len: usize, out: &mut Digest) -> Answer {
+    let message = unsafe { std::slice::from_raw_parts(message, len) };
+    let (answer, digest) = public_hash(message);
+    *out = digest;
+    answer
+}
+
+#[inline(never)]
+pub extern "C" fn leaf(a: u32, c: u32, out: &mut Digest) {
+    *out = merkle::leaf(a, c);
+}
+
+#[inline(never)]
+pub extern "C" fn node(left: &Digest, right: &Digest, out: &mut Digest) {
+    *out = merkle::node(left, right);
+}
+
+#[inline(never)]
+pub extern "C" fn challenge(state: &Digest) -> u32 {
+    Transcript { state: *state }.challenge()
+}
+
+#[inline(never)]
+pub extern "C" fn mul(a: u32, b: u32) -> u32 {
+    field::mul(a, b)
+}
+
+#[inline(never)]
+pub extern "C" fn pow(a: u32, e: u32) -> u32 {
+    field::pow(a, e)
+}
+
+#[inline(never)]
+pub extern "C" fn inv(a: u32) -> u32 {
+    field::inv(a)
+}
+
+#[inline(never)]
+pub extern "C" fn point(n: u8, layer: u8, index: u32) -> u32 {
+    domain::point(n, layer, index)
+}
+
+#[inline(never)]
+pub extern "C" fn eval(coefficients: &Coefficients, count: usize, x: u32) -> u32 {
+    fold::eval(&coefficients[..count.min(coefficients.len())], x)
+}
+
+#[inline(never)]
+pub extern "C" fn agrees(x: u32, beta: u32, a: u32, c: u32, v: u32) -> bool {
+    fold::agrees(x, beta, a, c, v)
+}
+
+// The independent program goes another way than the library in three calls: it
+// inverts by Euclid, works out the subgroup generator of each point, and tests
+// a fold with an inverse. A ratio between two ways says nothing about the two
+// compilers, so these peers go the library's way, in ordinary Rust.
+
+#[inline(never)]
+pub extern "C" fn inv_by_power(a: u32) -> u32 {
+    field::pow(a, P - 2)
+}
+
+/// Each entry is the square of the entry after it; the last is 5^3.
+static SUBGROUP_GENERATORS: [u32; 31] = {
+    let mut table = [125; 31];
+    let mut t = 30;
+    while t > 0 {
+        let after = table[t] as u64;
+        t -= 1;
+        table[t] = (after * after % P as u64) as u32;
+    }
+    table
+};
+
+#[inline(never)]
+pub extern "C" fn point_by_table(n: u8, layer: u8, index: u32) -> u32 {
+    let mut coset = domain::Coset {
+        offset: field::GENERATOR,
+        generator: SUBGROUP_GENERATORS[(n as usize).min(field::LARGEST_SUBGROUP)],
+    };
+    for _ in 0..layer {
+        coset.offset = field::mul(coset.offset, coset.offset);
+        coset.generator = field::mul(coset.generator, coset.generator);
+    }
+    coset.point(index)
+}
+
+#[inline(never)]
+pub extern "C" fn agrees_by_products(x: u32, beta: u32, a: u32, c: u32, v: u32) -> bool {
+    let right = field::add(
+        field::mul(x, field::add(a, c)),
+        field::mul(beta, field::sub(a, c)),
+    );
+    field::mul(field::mul(2, x), v) == right
+}
