@@ -4,6 +4,7 @@ use mathlib.Core.List.{List, [], _++_, append-nil}
 use mathlib.Core.Path.{_≡_, ap, sym, _∙_, subst}
 use lib.ListN.{length}
 use Rattle.answer.specs.Table.{answered, accepted}
+use Rattle.sha256.specs.Sha256.{sha256}
 use Rattle.params.specs.declared.Params.{Params}
 use Rattle.params.specs.Parameters.{Valid, fileLength}
 use Rattle.params.proofs.ParameterLaws.{valid-test}
@@ -64,3 +65,9 @@ pub accepted-exactly : (hash : List ℕ → Digest) (p : Params) (context file :
     → (verdict hash p context file ≡ answered accepted (fileLength p) → Accepted hash p context file)
     × (Accepted hash p context file → verdict hash p context file ≡ answered accepted (fileLength p))
 accepted-exactly hash p context file v h = (verdict-accepted hash p context file v h, accepted-verdict hash p context file v)
+
+-- At the hash that the code has.
+pub at-sha256 : (p : Params) (context file : List ℕ) → Valid p → Bytes file
+    → (verdict sha256 p context file ≡ answered accepted (fileLength p) → Accepted sha256 p context file)
+    × (Accepted sha256 p context file → verdict sha256 p context file ≡ answered accepted (fileLength p))
+at-sha256 = accepted-exactly sha256
