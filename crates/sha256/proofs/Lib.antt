@@ -1,6 +1,7 @@
 -- Laws that the proofs share.
 pub mod Build
 pub mod Bitwise
+pub mod Rotation
 pub mod RoundLaws
 pub mod Padding
 pub mod HashLaws

@@ -7,7 +7,7 @@ ghost use Rattle.sha256.specs.Words.{ch, maj, bigSigma0, bigSigma1, smal
 ghost use Rattle.sha256.specs.Constants.{roundConstants};
 ghost use Rattle.sha256.specs.Sha256 as spec;
 ghost use Rattle.sha256.specs.Hash.{hashed};
-ghost use Rattle.sha256.specs.Private.{Starts, finalWords, hashNumber};
+ghost use Rattle.sha256.specs.Private.{Starts, LastRounds, finalWords, hashNumber};
 use answer::Answer;
 
 // The longest message that is hashed, in bytes.
@@ -103,11 +103,13 @@ fn majority(x: u32, y: u32, z: u32) -> u32
     y ^ ((x ^ y) & (y ^ z))
 }
 
-// The functions (4.4) to (4.7).
+// The functions (4.4) to (4.7). Of two rotations of x, by p and by p + q, one is saved: x and its rotation by q are turned by p together. But
+// that takes longer from x to the value, and a round waits longest for the value of big_sigma1, which is left as it is defined.
 fn big_sigma0(x: u32) -> u32
     ensures { λ r. ⌜ r ≡ bigSigma0 x ⌝ }
 {
-    (x >> 2 | x << 30) ^ (x >> 13 | x << 19) ^ (x >> 22 | x << 10)
+    let y = x ^ (x >> 11 | x << 21);
+    (y >> 2 | y << 30) ^ (x >> 22 | x << 10)
 }
 
 fn big_sigma1(x: u32) -> u32
@@ -119,13 +121,15 @@ fn big_sigma1(x: u32) -> u32
 fn small_sigma0(x: u32) -> u32
     ensures { λ r. ⌜ r ≡ smallSigma0 x ⌝ }
 {
-    (x >> 7 | x << 25) ^ (x >> 18 | x << 14) ^ (x >> 3)
+    let y = x ^ (x >> 11 | x << 21);
+    (y >> 7 | y << 25) ^ (x >> 3)
 }
 
 fn small_sigma1(x: u32) -> u32
     ensures { λ r. ⌜ r ≡ smallSigma1 x ⌝ }
 {
-    (x >> 17 | x << 15) ^ (x >> 19 | x << 13) ^ (x >> 10)
+    let y = x ^ (x >> 2 | x << 30);
+    (y >> 17 | y << 15) ^ (x >> 10)
 }
 
 // Sums modulo 2^32.
@@ -174,29 +178,6 @@ fn round_at(s: [u32; 8], k: &[u32; 64], w: &[u32; 64], t: usize) -> [u32; 8]
     round(s, k[t], w[t])
 }
 
-// The 64 rounds, eight to a turn, so that the working variables stay in registers. The constants are lent from `absorb`: naming K here
-// would copy the table for each block.
-fn rounds(k: &[u32; 64], h: [u32; 8], w: [u32; 64]) -> [u32; 8]
-    requires { ⌜ now k ≡ roundConstants ⌝ }
-    ensures { λ r. ⌜ r ≡ spec.rounds w h 64 ⌝ }
-{
-    let mut s = h;
-    let mut t = 0;
-    while t < 64 {
-        let s0 = round_at(s, k, &w, t);
-        let s1 = round_at(s0, k, &w, t + 1);
-        let s2 = round_at(s1, k, &w, t + 2);
-        let s3 = round_at(s2, k, &w, t + 3);
-        let s4 = round_at(s3, k, &w, t + 4);
-        let s5 = round_at(s4, k, &w, t + 5);
-        let s6 = round_at(s5, k, &w, t + 6);
-        let s7 = round_at(s6, k, &w, t + 7);
-        s = s7;
-        t += 8;
-    }
-    s
-}
-
 // A block's sixteen words, and room for the rest of its schedule.
 fn widen(m: [u32; 16]) -> [u32; 64]
     ensures { λ r. ⌜ Starts m r ⌝ }
@@ -223,13 +204,47 @@ fn next_word(w: &[u32; 64], n: usize) -> u32
     )
 }
 
-// The message schedule of a block, 6.2.2 step 1, eight words to a turn.
-fn schedule(m: [u32; 16]) -> [u32; 64]
-    ensures { λ r. ⌜ r ≡ spec.schedule m 48 ⌝ }
+// The last sixteen rounds, 6.2.2 step 3, eight to a turn: the schedule is whole by then.
+fn last_rounds(k: &[u32; 64], start: [u32; 8], w: &[u32; 64]) -> [u32; 8]
+    requires { ⌜ now k ≡ roundConstants ⌝ }
+    ensures { λ r. ⌜ LastRounds (now (w .entry)) start r ⌝ }
+{
+    let mut s = start;
+    let mut n = 48;
+    while n < 64 {
+        let s0 = round_at(s, k, w, n);
+        let s1 = round_at(s0, k, w, n + 1);
+        let s2 = round_at(s1, k, w, n + 2);
+        let s3 = round_at(s2, k, w, n + 3);
+        let s4 = round_at(s3, k, w, n + 4);
+        let s5 = round_at(s4, k, w, n + 5);
+        let s6 = round_at(s5, k, w, n + 6);
+        let s7 = round_at(s6, k, w, n + 7);
+        s = s7;
+        n += 8;
+    }
+    s
+}
+
+// The 64 rounds on a block, 6.2.2 steps 1 to 3, eight to a turn, so that the working variables stay in registers. Beside the rounds of a turn
+// stand the eight words of the schedule that are needed two turns on: a round waits for the round before it, and the processor fills the wait
+// with the words. The constants are lent from `absorb`: naming K here would copy the table for each block.
+fn rounds(k: &[u32; 64], h: [u32; 8], m: [u32; 16]) -> [u32; 8]
+    requires { ⌜ now k ≡ roundConstants ⌝ }
+    ensures { λ r. ⌜ r ≡ spec.rounds (spec.schedule m 48) h 64 ⌝ }
 {
     let mut w = widen(m);
+    let mut s = h;
     let mut n = 0;
     while n < 48 {
+        let s0 = round_at(s, k, &w, n);
+        let s1 = round_at(s0, k, &w, n + 1);
+        let s2 = round_at(s1, k, &w, n + 2);
+        let s3 = round_at(s2, k, &w, n + 3);
+        let s4 = round_at(s3, k, &w, n + 4);
+        let s5 = round_at(s4, k, &w, n + 5);
+        let s6 = round_at(s5, k, &w, n + 6);
+        let s7 = round_at(s6, k, &w, n + 7);
         let x0 = next_word(&w, n);
         w[n + 16] = x0;
         let x1 = next_word(&w, n + 1);
@@ -246,9 +261,10 @@ fn schedule(m: [u32; 16]) -> [u32; 64]
         w[n + 22] = x6;
         let x7 = next_word(&w, n + 7);
         w[n + 23] = x7;
+        s = s7;
         n += 8;
     }
-    w
+    last_rounds(k, s, &w)
 }
 
 // The sums of the words of two hash values, 6.2.2 step 4.
@@ -272,8 +288,7 @@ fn compress(k: &[u32; 64], h: [u32; 8], m: [u32; 16]) -> [u32; 8]
     requires { ⌜ now k ≡ roundConstants ⌝ }
     ensures { λ r. ⌜ r ≡ spec.compress h m ⌝ }
 {
-    let w = schedule(m);
-    let s = rounds(k, h, w);
+    let s = rounds(k, h, m);
     add_words(h, s)
 }
 
@@ -345,17 +360,19 @@ fn load_whole(m: &[u8], i: usize) -> [u32; 16]
     w
 }
 
-// The sixteen words of block i of the padded message, one of its last two.
+// The sixteen words of block i of the padded message, one of its last two: those that the message or the one bit after it reaches into, and the
+// last, which may have the length. Between them are zeros, which need no test for each word.
 fn load_end(m: &[u8], i: usize) -> [u32; 16]
-    requires { ⌜ (length (now m) ≤ 4096) × (i < (length (now m) + 72) / 64) ⌝ }
+    requires { ⌜ (length (now m) ≤ 4096) × (i < (length (now m) + 72) / 64) × (length (now m) < i * 64 + 64) ⌝ }
     ensures { λ r. ⌜ r ≡ spec.block (spec.pad (now (m .entry))) i ⌝ }
 {
     let mut w = [0u32; 16];
     let mut j = 0;
-    while j < 16 {
+    while (i * 16 + j) * 4 <= m.len() {
         w[j] = padded_word(m, i * 16 + j);
         j += 1;
     }
+    w[15] = padded_word(m, i * 16 + 15);
     w
 }
 
@@ -371,12 +388,18 @@ fn load(m: &[u8], i: usize) -> [u32; 16]
     }
 }
 
-// Byte i of a word, counted from the highest.
+// Byte i of a word, counted from the highest. The four bytes are turned about first: the compiled code then turns and stores a word at a time.
 fn byte_of(x: u32, i: u32) -> u8
     requires { ⌜ i < 4 ⌝ }
     ensures { λ r. ⌜ r ≡ x / 2 ^ (8 * (3 - i)) % 256 ⌝ }
 {
-    ((x >> (8 * (3 - i))) % 256) as u8
+    let y = join(
+        (x % 256) as u8,
+        (x / 256 % 256) as u8,
+        (x / 65536 % 256) as u8,
+        (x / 16777216) as u8,
+    );
+    ((y >> (8 * i)) % 256) as u8
 }
 
 // The eight words as bytes.
