@@ -126,12 +126,15 @@ fn all_faults(params: Params, context: &Digest, bytes: &[u8]) -> Vec<Answer> {
 }
 
 /// The plain reader: it holds the bytes joined so far and whether it is
-/// closed, and judges all the bytes anew at each call.
+/// closed, and judges all the bytes anew at each call. Only a refusal is not
+/// looked for again: the earliest byte decides, and no byte joined on later is
+/// earlier than those that were judged.
 pub struct Reader {
     params: Params,
     context: Digest,
     joined: Vec<u8>,
     closed: bool,
+    judgement: Judgement,
 }
 
 impl Reader {
@@ -143,6 +146,7 @@ impl Reader {
             context: *context,
             joined: Vec::new(),
             closed,
+            judgement: Judgement::NoFault,
         };
         (Answer::new(number, 0), reader)
     }
@@ -152,7 +156,7 @@ impl Reader {
             return Answer::new(CLOSED, 0);
         }
         self.joined.extend_from_slice(bytes);
-        match judge(self.params, &self.context, &self.joined) {
+        match self.judge_joined() {
             Judgement::Refused(refusal) => refusal,
             Judgement::NoFault => Answer::new(OPEN, self.joined.len()),
         }
@@ -164,11 +168,18 @@ impl Reader {
         }
         self.closed = true;
         let length = self.params.file_length();
-        match judge(self.params, &self.context, &self.joined) {
+        match self.judge_joined() {
             Judgement::Refused(refusal) => refusal,
             Judgement::NoFault if self.joined.len() == length => Answer::new(ACCEPTED, length),
             Judgement::NoFault => Answer::new(TOO_SHORT, self.joined.len()),
         }
+    }
+
+    fn judge_joined(&mut self) -> Judgement {
+        if self.judgement == Judgement::NoFault {
+            self.judgement = judge(self.params, &self.context, &self.joined);
+        }
+        self.judgement
     }
 }
 

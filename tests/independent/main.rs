@@ -1,50 +1,56 @@
 //! An independent program for the rules of document 01: it builds and judges
-//! fold proofs, and compares a linked library with itself call by call.
+//! fold proofs, compares a linked library with itself call by call, and another
+//! program's answers to lists of calls with its own.
 
 // The comparisons need the library and are built with `--cfg linked` only;
 // without them some parts serve the tests alone.
 #![cfg_attr(not(linked), allow(dead_code))]
 
 mod answer;
+mod check;
 #[cfg(linked)]
 mod compare;
 mod domain;
 #[cfg(linked)]
 mod ffi;
 mod field;
+mod files;
 mod fold;
-// The plain reader is run by the tests only.
-#[allow(dead_code)]
+mod job;
 mod judge;
+mod layout;
 mod merkle;
 mod params;
 mod proof;
+mod random_scripts;
 mod rng;
+mod script;
 mod sha256;
 mod transcript;
 
 use std::env;
-use std::io::{self, Read, Write};
+use std::fs;
+use std::io::{self, BufWriter, Read, Write};
+use std::path::Path;
 use std::process::ExitCode;
 
-use answer::{Answer, ACCEPTED, JOB_TOO_SHORT};
 use params::Params;
-use rng::Rng;
+use random_scripts::RandomScripts;
 
 const USAGE: &str = "usage:
   independent leaves [ROUNDS]
   independent parts [ROUNDS]
   independent build N B K Q SEED > JOB
-  independent verdict < JOB";
-
-/// Bytes of a job before the proof: the parameters and the context.
-const JOB_HEADER: usize = 36;
+  independent verdict < JOB
+  independent jobs DIR
+  independent scripts SEED COUNT > SCRIPTS
+  independent check-scripts SCRIPTS ANSWERS";
 
 fn main() -> ExitCode {
     let arguments: Vec<String> = env::args().skip(1).collect();
     let arguments: Vec<&str> = arguments.iter().map(String::as_str).collect();
     match run(&arguments) {
-        Ok(()) => ExitCode::SUCCESS,
+        Ok(status) => status,
         Err(message) => {
             eprintln!("{message}");
             ExitCode::from(2)
@@ -52,28 +58,37 @@ fn main() -> ExitCode {
     }
 }
 
-fn run(arguments: &[&str]) -> Result<(), String> {
+fn run(arguments: &[&str]) -> Result<ExitCode, String> {
     match arguments {
-        ["leaves" | "parts"] | ["leaves" | "parts", _] => compare(arguments),
+        ["leaves" | "parts"] | ["leaves" | "parts", _] => compare(arguments)?,
         ["build", n, b, k, q, seed] => {
             let params = Params::new(number(n)?, number(b)?, number(k)?, number(q)?);
             if !params.valid() {
                 return Err("parameters not valid".to_string());
             }
             io::stdout()
-                .write_all(&random_job(params, number(seed)?))
-                .map_err(|e| e.to_string())
+                .write_all(&job::random_job(params, number(seed)?))
+                .map_err(|e| e.to_string())?;
         }
         ["verdict"] => {
             let mut job = Vec::new();
             io::stdin()
                 .read_to_end(&mut job)
                 .map_err(|e| e.to_string())?;
-            println!("{}", line(job_verdict(&job)));
-            Ok(())
+            println!("{}", job::line(&job));
         }
-        _ => Err(USAGE.to_string()),
+        ["jobs", directory] => {
+            let names = job::write_examples(Path::new(directory))
+                .map_err(|e| format!("{directory}: {e}"))?;
+            println!("{} jobs: {}", names.len(), names.join(", "));
+        }
+        ["scripts", seed, count] => {
+            write_scripts(number(seed)?, number(count)?).map_err(|e| e.to_string())?
+        }
+        ["check-scripts", scripts, answers] => return check_scripts(scripts, answers),
+        _ => return Err(USAGE.to_string()),
     }
+    Ok(ExitCode::SUCCESS)
 }
 
 fn number<T: std::str::FromStr>(text: &str) -> Result<T, String> {
@@ -96,64 +111,28 @@ fn compare(_: &[&str]) -> Result<(), String> {
     Err("built without the library to compare with; see README.md".to_string())
 }
 
-/// The proof of a random polynomial of full size, with a random context.
-fn random_job(params: Params, seed: u64) -> Vec<u8> {
-    let mut rng = Rng::new(seed);
-    let context = rng.digest();
-    let polynomial = rng.elements(1 << (params.n - params.b));
-    let mut job = vec![params.n, params.b, params.k, params.q];
-    job.extend(context);
-    job.extend(proof::build(params, &context, &polynomial));
-    job
+fn write_scripts(seed: u64, count: usize) -> io::Result<()> {
+    let mut out = BufWriter::new(io::stdout().lock());
+    for script in RandomScripts::new(seed).take(count) {
+        out.write_all(&script.to_bytes())?;
+    }
+    out.flush()
 }
 
-fn job_verdict(job: &[u8]) -> Answer {
-    if job.len() < JOB_HEADER {
-        return Answer::new(JOB_TOO_SHORT, job.len());
-    }
-    let (header, proof) = job.split_at(JOB_HEADER);
-    let params = Params::new(header[0], header[1], header[2], header[3]);
-    let context = header[4..].try_into().expect("32 context bytes");
-    judge::verdict(params, context, proof)
-}
-
-fn line(answer: Answer) -> String {
-    match answer.number {
-        ACCEPTED => format!("accepted {}", answer.place),
-        number => format!("refused {number} at {}", answer.place),
-    }
-}
-
-#[cfg(test)]
-mod tests {
-    use super::*;
-
-    fn job_line(job: &[u8]) -> String {
-        line(job_verdict(job))
-    }
-
-    #[test]
-    fn lines_of_the_document() {
-        let mut job = random_job(Params::new(4, 2, 1, 2), 1);
-        assert_eq!(job.len(), JOB_HEADER + 260);
-        assert_eq!(job_line(&job), "accepted 260");
-        assert_eq!(job_line(&job[..JOB_HEADER]), "refused 26 at 0");
-        job.push(0);
-        assert_eq!(job_line(&job), "refused 27 at 261");
-    }
-
-    #[test]
-    fn short_jobs_are_refused_before_their_parameters() {
-        assert_eq!(job_line(&[]), "refused 12 at 0");
-        assert_eq!(job_line(&[0; 35]), "refused 12 at 35");
-        assert_eq!(job_line(&[0; 36]), "refused 10 at 0");
-        assert_eq!(job_line(&[0xff; 500]), "refused 10 at 0");
-    }
-
-    #[test]
-    fn jobs_repeat_with_their_seed() {
-        let params = Params::new(5, 1, 2, 3);
-        assert_eq!(random_job(params, 7), random_job(params, 7));
-        assert_ne!(random_job(params, 7), random_job(params, 8));
+fn check_scripts(scripts_path: &str, answers_path: &str) -> Result<ExitCode, String> {
+    let read = |path: &str| fs::read(path).map_err(|e| format!("{path}: {e}"));
+    let scripts = script::read_scripts(&read(scripts_path)?)
+        .map_err(|message| format!("{scripts_path}: {message}"))?;
+    // What is not text is no right answer either.
+    let answers = read(answers_path)?;
+    match check::check(&scripts, &String::from_utf8_lossy(&answers)) {
+        Ok(agreement) => {
+            println!("{agreement}");
+            Ok(ExitCode::SUCCESS)
+        }
+        Err(disagreement) => {
+            println!("{disagreement}");
+            Ok(ExitCode::from(1))
+        }
     }
 }

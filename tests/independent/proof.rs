@@ -30,6 +30,18 @@ impl Layer {
 
 /// The proof for a polynomial of at most 2^(n−b) coefficients.
 pub fn build(params: Params, context: &Digest, polynomial: &[u32]) -> Vec<u8> {
+    build_altered(params, context, polynomial, |_, _| {})
+}
+
+/// The same, but the numbers of each layer may be altered before they are
+/// committed to, and at last, as those of layer k, the final coefficients. The
+/// polynomial is folded on as if nothing had been altered.
+pub fn build_altered(
+    params: Params,
+    context: &Digest,
+    polynomial: &[u32],
+    mut alter: impl FnMut(u8, &mut [u32]),
+) -> Vec<u8> {
     assert!(params.valid(), "parameters not valid");
     let full_size = 1 << (params.n - params.b);
     assert!(polynomial.len() <= full_size, "too many coefficients");
@@ -40,11 +52,14 @@ pub fn build(params: Params, context: &Digest, polynomial: &[u32]) -> Vec<u8> {
     let mut transcript = Transcript::start(params, context);
     let mut layers = Vec::new();
     for j in 0..params.k {
-        let layer = Layer::new(layer_values(&polynomial, params.n, j));
+        let mut values = layer_values(&polynomial, params.n, j);
+        alter(j, &mut values);
+        let layer = Layer::new(values);
         transcript.absorb_root(&layer.tree.root());
         polynomial = fold_coefficients(&polynomial, transcript.challenge());
         layers.push(layer);
     }
+    alter(params.k, &mut polynomial);
     assemble(params, transcript, &layers, &polynomial)
 }
 

@@ -29,6 +29,32 @@ impl Rng {
         (self.next() % bound as u64) as usize
     }
 
+    /// A number from the first to the second, both included.
+    pub fn between(&mut self, least: usize, most: usize) -> usize {
+        least + self.below(most - least + 1)
+    }
+
+    /// True once in so many times.
+    pub fn one_in(&mut self, times: usize) -> bool {
+        self.below(times) == 0
+    }
+
+    pub fn pick<T: Copy>(&mut self, choices: &[T]) -> T {
+        choices[self.below(choices.len())]
+    }
+
+    /// A choice, each as often as its weight says.
+    pub fn weighted<T: Copy>(&mut self, choices: &[(usize, T)]) -> T {
+        let mut rest = self.below(choices.iter().map(|(weight, _)| weight).sum());
+        for &(weight, choice) in choices {
+            if rest < weight {
+                return choice;
+            }
+            rest -= weight;
+        }
+        unreachable!("the rest is below the sum of the weights")
+    }
+
     /// A field number.
     pub fn element(&mut self) -> u32 {
         self.below(P as usize) as u32
@@ -67,5 +93,19 @@ mod tests {
         let words: Vec<u32> = (0..20).map(|_| one.word()).collect();
         assert!(words.iter().all(|&word| word == same.word()));
         assert!(words.iter().any(|&word| word != other.word()));
+    }
+
+    #[test]
+    fn choices_keep_to_their_bounds_and_weights() {
+        let mut rng = Rng::new(7);
+        let mut seen = [0; 4];
+        for _ in 0..1000 {
+            assert!((3..=5).contains(&rng.between(3, 5)));
+            assert_eq!(rng.between(9, 9), 9);
+            assert!([1, 2].contains(&rng.pick(&[1, 2])));
+            seen[rng.weighted(&[(1, 0), (0, 1), (8, 2), (1, 3)])] += 1;
+        }
+        assert!(seen[0] > 0 && seen[1] == 0 && seen[3] > 0);
+        assert!(seen[2] > 700 && seen[2] < 900);
     }
 }

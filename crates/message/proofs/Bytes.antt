@@ -1,13 +1,13 @@
--- Numbers as bytes, low byte first, and back. Assumes nothing.
-use Prim.Native.Nat.{ℕ, zero, suc, _+_, _*_, _^_, _%_, _<_, _≤_, _/_}
-use mathlib.Core.List.{List, [], _∷_}
+-- Numbers as bytes, low byte first, and reading parts of joined bytes back. Assumes nothing.
+use Prim.Native.Nat.{ℕ, zero, suc, _+_, _*_, _^_, _%_, _-_, _<_, _≤_, _/_}
+use mathlib.Core.List.{List, [], _∷_, _++_, append-assoc}
 use mathlib.Core.Path.{_≡_, refl, ap, sym, _∙_, ap₂}
-use native.Mathlib.Nat.{pow-suc, pow-zero, mod-eq-of-lt, mod-one, zero-lt-suc, one-le-pow}
+use native.Mathlib.Nat.{zero-add, add-comm, mul-zero, pow-suc, pow-zero, mod-eq-of-lt, mul-suc, mod-one, suc-add, zero-lt-suc, one-le-pow}
 use native.Mathlib.Omega.{arith}
 use lib.Arith.{mod-mul}
-use lib.ListN.{length, getD, take, drop}
-use lib.Seq.{drop-cons}
-use Rattle.message.specs.Bytes.{le, num}
+use lib.ListN.{length, getD, take, drop, length-append}
+use lib.Seq.{take-take, take-nil, drop-drop, drop-append-add, take-at, drop-at, drop-cons}
+use Rattle.message.specs.Bytes.{le, num, part, joined}
 
 pub le-length : (w v : ℕ) → length (le w v) ≡ w
 unfolding le
@@ -53,6 +53,46 @@ drop-bytes h zero = h
 drop-bytes none (suc w) = none
 drop-bytes (more h r) (suc w) = drop-bytes r w
 
+pub part-at : (xs ys zs : List ℕ) (i n : ℕ) → length xs ≡ i → length ys ≡ n → part i n (xs ++ (ys ++ zs)) ≡ ys
+unfolding part
+part-at xs ys zs i n e k = rw (drop-at xs (ys ++ zs) i e) (take-at ys zs n k)
+
+drop-take : (j k : ℕ) (xs : List ℕ) → drop j (take (j + k) xs) ≡ take k (drop j xs)
+drop-take zero k xs = rw (zero-add k)
+drop-take (suc j) k [] = rw (suc-add j k) (sym (take-nil k))
+drop-take (suc j) k (x ∷ xs) = rw (suc-add j k) (drop-take j k xs)
+
+-- A part of a part.
+pub part-part : (i n j m : ℕ) (xs : List ℕ) → j + m ≤ n → part j m (part i n xs) ≡ part (i + j) m xs
+unfolding part
+part-part i n j m xs h =
+    let rest : n ≡ j + (n - j) = omega arith in
+    ap (λ u. take m (drop j (take u (drop i xs)))) rest
+    ∙ ap (λ u. take m u) (drop-take j (n - j) (drop i xs))
+    ∙ take-take m (n - j) (drop j (drop i xs)) (omega arith)
+    ∙ ap (λ u. take m u) (drop-drop j i xs)
+
+pub data Sized (s : ℕ) : List (List ℕ) → Type 0 where
+  none : Sized s []
+  more : {b : List ℕ} {bs : List (List ℕ)} → length b ≡ s → Sized s bs → Sized s (b ∷ bs)
+
+-- Block i of blocks of one size.
+pub joined-at : {s : ℕ} {bs : List (List ℕ)} → Sized s bs → (zs : List ℕ) (i : ℕ) → i < length bs → part (s * i) s (joined bs ++ zs) ≡ getD bs i []
+unfolding joined part
+joined-at {s} none zs i h = absurd (omega arith)
+joined-at {s} (more {b} {bs} e r) zs zero h =
+    ap (λ u. take s (drop u ((b ++ joined bs) ++ zs))) (mul-zero s) ∙ ap (λ u. take s u) (append-assoc b (joined bs) zs) ∙ take-at b (joined bs ++ zs) s e
+joined-at {s} (more {b} {bs} e r) zs (suc i) h =
+    ap (λ u. take s u)
+    (ap₂ (λ u v. drop u v) (mul-suc s i ∙ add-comm (s * i) s ∙ ap (λ u. u + s * i) (sym e)) (append-assoc b (joined bs) zs)
+    ∙ drop-append-add b (joined bs ++ zs) (s * i))
+    ∙ joined-at r zs i (omega arith)
+
+pub joined-length : {s : ℕ} {bs : List (List ℕ)} → Sized s bs → length (joined bs) ≡ s * length bs
+unfolding joined
+joined-length {s} none = sym (mul-zero s)
+joined-length {s} (more {b} {bs} e r) = length-append b (joined bs) ∙ ap₂ (λ u v. u + v) e (joined-length r) ∙ add-comm s (s * length bs) ∙ sym (mul-suc s (length bs))
+
 -- The number in n + 1 bytes from byte i on, by its first byte.
 pub num-front : (d : List ℕ) (i n : ℕ) → i < length d → num (take (suc n) (drop i d)) ≡ getD d i 0 + 256 * num (take n (drop (suc i) d))
 unfolding num
@@ -63,3 +103,8 @@ pub num-four : (d : List ℕ) → 4 ≤ length d → num (take 4 d) ≡ getD d 0
 unfolding num
 num-four d h =
     rw (num-front d 0 3 (omega arith), num-front d 1 2 (omega arith), num-front d 2 1 (omega arith), num-front d 3 0 (omega arith)) (omega arith)
+
+-- The number in the first 2 bytes.
+pub num-two : (d : List ℕ) → 2 ≤ length d → num (take 2 d) ≡ getD d 0 0 + 256 * getD d 1 0
+unfolding num
+num-two d h = rw (num-front d 0 1 (omega arith), num-front d 1 0 (omega arith)) (omega arith)

@@ -1,0 +1,92 @@
+-- Laws on byte strings that are compared, and on the value that an index names.
+-- Assumes nothing.
+use Prim.Native.Nat.{ℕ, suc, _+_, _≤_, _<_, _%_}
+use native.Mathlib.Omega.{arith}
+use native.Mathlib.Nat.{mod-eq-of-lt}
+use mathlib.Core.Path.{_≡_, refl, sym, _∙_, ap}
+use mathlib.Core.Bool.{Bool, true, false, cond, _&&_, false≢true}
+use mathlib.Core.List.{List, [], _∷_}
+use lib.ListN.{length, take, drop, getD, length-drop}
+use lib.Seq.{length-take-le, getD-take, getD-drop, ext-getD, drop-cons}
+use lib.Dec.{eqb, ltb}
+use borrow.Author.Tests.{eq-eqb, eqb-true, lt-ltb, ltb-true}
+use Rattle.params.specs.declared.Params.{Params}
+use Rattle.params.specs.Parameters.{header}
+use Rattle.domain.specs.Domain.{half}
+use Rattle.domain.proofs.Index.{mod-half}
+use Rattle.fri.specs.Judge.{sameBytes, named}
+use Rattle.reader.proofs.Laws.{taken}
+
+-- A byte string is itself; equal strings have equal bytes.
+pub same-self : (a : List ℕ) → sameBytes a a ≡ true
+unfolding sameBytes
+same-self [] = refl
+same-self (x ∷ xs) = rw (eq-eqb x x refl) (same-self xs)
+
+pub same-equal : (a b : List ℕ) → sameBytes a b ≡ true → a ≡ b
+unfolding sameBytes
+same-equal [] [] e = refl
+same-equal [] (y ∷ ys) e = absurd (false≢true e)
+same-equal (x ∷ xs) [] e = absurd (false≢true e)
+same-equal (x ∷ xs) (y ∷ ys) e = go (same-equal xs ys) (eqb x y) refl
+  where
+    go : (sameBytes xs ys ≡ true → xs ≡ ys) → (t : Bool) → eqb x y ≡ t → (x ∷ xs) ≡ (y ∷ ys)
+    go more true q =
+        let heads : x ≡ y = eqb-true x y q in
+        let tails : xs ≡ ys = more (rw q at e) in
+        cc
+    go more false q = absurd (false≢true (rw q at e))
+
+same-differ : (a b : List ℕ) (i : ℕ) → (getD a i 0 ≡ getD b i 0 → ⊥) → false ≡ sameBytes a b
+same-differ a b i h = go (sameBytes a b) refl
+  where
+    go : (t : Bool) → sameBytes a b ≡ t → false ≡ t
+    go true e = absurd (h (ap (λ (l : List ℕ). getD l i 0) (same-equal a b e)))
+    go false e = refl
+
+-- A digest against 32 bytes of a list, from index at on: one byte that differs, or none.
+pub part-differs : (d l : List ℕ) (at i : ℕ) → i < 32 → (getD d i 0 ≡ getD l (at + i) 0 → ⊥) → false ≡ sameBytes d (take 32 (drop at l))
+part-differs d l at i h ne = same-differ d (take 32 (drop at l)) i (λ e. ne (e ∙ (getD-take 32 (drop at l) i 0 h ∙ getD-drop at l i 0)))
+
+pub part-same : (d l : List ℕ) (at : ℕ) → length d ≡ 32 → at + 32 ≤ length l → ((k : ℕ) → k < 32 → getD d k 0 ≡ getD l (at + k) 0) → true ≡ sameBytes d (take 32 (drop at l))
+part-same d l at long fits each = sym (rw (← same) (same-self d))
+  where
+    same : d ≡ take 32 (drop at l)
+    same =
+        ext-getD 0 d (take 32 (drop at l))
+        (long ∙ sym (length-take-le 32 (drop at l) (simp length-drop (omega arith))))
+        (λ i h.
+        let h′ : i < 32 = omega (arith, long) in
+        each i h′ ∙ sym (getD-take 32 (drop at l) i 0 h′ ∙ getD-drop at l i 0))
+
+-- The parameter bytes against the first four of an item.
+and-true : (a : Bool) → (a && true) ≡ a
+and-true true = refl
+and-true false = refl
+
+front-four : (d : List ℕ) → 4 ≤ length d → take 4 d ≡ getD d 0 0 ∷ getD d 1 0 ∷ getD d 2 0 ∷ getD d 3 0 ∷ []
+front-four [] h = absurd (omega arith)
+front-four (a ∷ []) h = absurd (omega arith)
+front-four (a ∷ b ∷ []) h = absurd (omega arith)
+front-four (a ∷ b ∷ c ∷ []) h = absurd (omega arith)
+front-four (a ∷ b ∷ c ∷ e ∷ d) h = refl
+
+pub same-header : (d : List ℕ) (p : Params) → 4 ≤ length d
+    → (eqb (getD d 0 0) (p .n) && (eqb (getD d 1 0) (p .b) && (eqb (getD d 2 0) (p .k) && eqb (getD d 3 0) (p .q)))) ≡ sameBytes (take 4 d) (header p)
+unfolding sameBytes
+same-header d p h = sym (rw (front-four d h, and-true (eqb (getD d 3 0) (p .q))))
+
+-- An index names the first value where it is its own leaf, else the second.
+pub names-first : {leaf : ℕ} (p : Params) (j m a c : ℕ) → leaf ≡ m % half (p .n) j → leaf ≡ m → a ≡ named p j m a c
+unfolding named
+names-first p j m a c e same =
+    let below : m < half (p .n) j = omega (arith, mod-half (p .n) j m) in
+    taken _ (lt-ltb _ _ below)
+
+pub names-second : {leaf : ℕ} (p : Params) (j m a c : ℕ) → leaf ≡ m % half (p .n) j → (leaf ≡ m → ⊥) → c ≡ named p j m a c
+unfolding named
+names-second p j m a c e differ = go (ltb m (half (p .n) j)) refl
+  where
+    go : (t : Bool) → ltb m (half (p .n) j) ≡ t → c ≡ cond t a c
+    go true q = absurd (differ (e ∙ mod-eq-of-lt (ltb-true _ _ q)))
+    go false q = refl

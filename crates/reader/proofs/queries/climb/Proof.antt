@@ -1,0 +1,19 @@
+-- `reader::queries::climb` meets its contract.
+-- Assumes nothing.
+use Rattle.reader_model.specs.Items.{climbed}
+use borrow.Author.Needs.{needs}
+use Rattle.reader.proofs.queries.climb.Statement.{statement}
+use Rattle.reader.proofs.queries.climb.Tie as tie
+
+cast-parent : tie.Need-cast-parent
+cast-parent c = search needs
+
+parent-requires : tie.Need-parent-requires
+parent-requires c κs = search needs
+
+returns : tie.Need-returns
+unfolding climbed
+returns c = simp (c .parent .ensures)
+
+pub climb-spec : {M : Type 1} → statement M
+climb-spec = tie.close (tie.spec cast-parent parent-requires returns)

@@ -1,0 +1,220 @@
+// The streaming reader of FRI proofs. The file is a run of items of at most 32 bytes; bytes are gathered in a buffer, and whatever is decided is decided
+// at an item's last byte. Every function equals its definition in the crate below, with SHA-256 for the hash.
+mod queries;
+mod sections;
+mod state;
+
+ghost use mathlib.Core.Path.{_≡_};
+ghost use mathlib.Core.Bool.{cond};
+ghost use Prim.Native.Nat.{_+_, _≤_, min};
+ghost use lib.ListN.{length, take};
+ghost use lib.Seq.{sets};
+ghost use Rattle.sha256.specs.Sha256.{sha256};
+ghost use Rattle.reader_model.specs.Items.{advanced};
+ghost use Rattle.answer.specs.Table.{accepted, too-few-bytes};
+ghost use Rattle.reader_model.specs.Model.{isTail, fed, started, pieced, ended, opened};
+ghost use Rattle.reader.specs.Private.{Sane, tables, whole, afterItem};
+use answer::Answer;
+use params::Params;
+use reader_model::Core;
+use reader_model::Reader;
+use reader_model::Reply;
+use reader_model::Stage;
+use reader_model::Tables;
+use transcript::Transcript;
+
+// What a whole item of a sane state does, by its stage.
+fn dispatch(
+    c: Core,
+    roots: &mut [u8; 512],
+    challenges: &mut [u32; 16],
+    coefficients: &mut [u32; 64],
+) -> Core
+    requires { ⌜ Sane c ⌝ }
+    ensures { λ r. ⌜ whole r (now (roots .exit)) (now (challenges .exit)) (now (coefficients .exit)) ≡ afterItem c (tables (now (roots .entry)) (now (challenges .entry)) (now (coefficients .entry))) ⌝ }
+{
+    let stage = c.stage;
+    let params = c.params;
+    match stage {
+        Stage::ParameterCount => sections::after_count(c, 4, Stage::Parameters),
+        Stage::Parameters => sections::after_parameters(c),
+        Stage::RootCount => sections::after_count(c, params.k as usize, Stage::Root),
+        Stage::Root => sections::after_root(c, roots, challenges),
+        Stage::CoefficientCount => {
+            let count = params::final_count(params);
+            sections::after_count(c, count, Stage::Coefficient)
+        }
+        Stage::Coefficient => sections::after_coefficient(c, coefficients),
+        Stage::QueryCount => sections::after_query_count(c),
+        Stage::First => queries::after_first(c),
+        Stage::Second => queries::after_second(c, challenges),
+        Stage::Sibling => queries::after_sibling(c, roots, coefficients),
+        Stage::Tail => state::refuse(c, answer::BYTE_AFTER_THE_END),
+        Stage::Stopped => c,
+    }
+}
+
+// The state after a whole item.
+fn advance(
+    c: Core,
+    roots: &mut [u8; 512],
+    challenges: &mut [u32; 16],
+    coefficients: &mut [u32; 64],
+) -> Core
+    ensures { λ r. ⌜ whole r (now (roots .exit)) (now (challenges .exit)) (now (coefficients .exit)) ≡ advanced sha256 (whole c (now (roots .entry)) (now (challenges .entry)) (now (coefficients .entry))) ⌝ }
+{
+    if state::is_sane(c) {
+        dispatch(c, roots, challenges, coefficients)
+    } else {
+        state::halt(answer::CLOSED, 0)
+    }
+}
+
+fn least(a: usize, b: usize) -> usize
+    ensures { λ r. ⌜ r ≡ min a b ⌝ }
+{
+    if a < b { a } else { b }
+}
+
+// The first n bytes of a piece go into the item's buffer, from index at on.
+fn gather(item: &mut [u8; 32], at: usize, bytes: &[u8], n: usize)
+    requires { ⌜ (at + n ≤ 32) × (n ≤ length (now bytes)) ⌝ }
+    ensures { λ _. ⌜ now (item .exit) ≡ sets (now (item .entry)) at (take n (now (bytes .entry))) ⌝ }
+{
+    let mut i = 0;
+    while i < n {
+        item[at + i] = bytes[i];
+        i += 1;
+    }
+}
+
+// The state after a piece. The tables are lent from item to item, and only the small part goes by value.
+fn feed(state: Reader, bytes: &[u8]) -> Reader
+    ensures { λ r. ⌜ r ≡ fed sha256 state (now (bytes .entry)) ⌝ }
+{
+    let mut c = state.core;
+    let tables = state.tables;
+    let mut roots = tables.roots;
+    let mut challenges = tables.challenges;
+    let mut coefficients = tables.coefficients;
+    let mut i = 0;
+    while i < bytes.len() {
+        let stage = c.stage;
+        let need = state::item_length(stage);
+        let fill = c.fill;
+        if need <= fill {
+            break;
+        }
+        let room = need - fill;
+        let n = least(room, bytes.len() - i);
+        let mut item = c.item;
+        gather(&mut item, fill, &bytes[i..], n);
+        c.item = item;
+        c.fill = fill + n;
+        i += n;
+        if n == room {
+            c = advance(c, &mut roots, &mut challenges, &mut coefficients);
+        }
+    }
+    let after = Tables {
+        roots: roots,
+        challenges: challenges,
+        coefficients: coefficients,
+    };
+    Reader {
+        core: c,
+        tables: after,
+    }
+}
+
+// A piece: its answer, and the state after it.
+pub fn piece(state: Reader, bytes: &[u8]) -> Reply
+    ensures { λ r. ⌜ r ≡ pieced sha256 state (now (bytes .entry)) ⌝ }
+{
+    let next = feed(state, bytes);
+    let core = next.core;
+    let answer = state::answer_of(core, answer::OPEN);
+    Reply {
+        answer: answer,
+        state: next,
+    }
+}
+
+// The number of an open reader's end call.
+fn end_number(stage: Stage) -> u8
+    ensures { λ r. ⌜ r ≡ cond (isTail stage) accepted too-few-bytes ⌝ }
+{
+    if state::is_tail(stage) {
+        answer::ACCEPTED
+    } else {
+        answer::TOO_FEW_BYTES
+    }
+}
+
+// The end call: it leaves the closed state.
+pub fn end(state: Reader) -> Reply
+    ensures { λ r. ⌜ r ≡ ended state ⌝ }
+{
+    let core = state.core;
+    let stage = core.stage;
+    let number = end_number(stage);
+    let answer = state::answer_of(core, number);
+    let closed = state::closed_state();
+    Reply {
+        answer: answer,
+        state: closed,
+    }
+}
+
+// The state that an opening with valid parameters leaves.
+fn start(p: Params, context: [u8; 32]) -> Reader
+    ensures { λ r. ⌜ r ≡ started sha256 p context ⌝ }
+{
+    let first = Transcript::start(p, context);
+    let transcript = first.state;
+    let cursor = state::no_cursor();
+    let walk = state::no_walk();
+    let tables = state::no_tables();
+    let core = Core {
+        stage: Stage::ParameterCount,
+        answer: Answer {
+            number: answer::OPEN,
+            place: 0,
+        },
+        fill: 0,
+        item: [0u8; 32],
+        params: p,
+        cursor: cursor,
+        walk: walk,
+        transcript: transcript,
+    };
+    Reader {
+        core: core,
+        tables: tables,
+    }
+}
+
+// The opening.
+pub fn open(p: Params, context: [u8; 32]) -> Reply
+    ensures { λ r. ⌜ r ≡ opened sha256 p context ⌝ }
+{
+    if params::is_valid(p) {
+        let state = start(p, context);
+        Reply {
+            answer: Answer {
+                number: answer::OPEN,
+                place: 0,
+            },
+            state: state,
+        }
+    } else {
+        let state = state::closed_state();
+        Reply {
+            answer: Answer {
+                number: answer::PARAMETERS_NOT_VALID,
+                place: 0,
+            },
+            state: state,
+        }
+    }
+}

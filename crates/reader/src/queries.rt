@@ -1,0 +1,195 @@
+// What the items of the queries do: the two values of an opening, and its siblings up to the root.
+ghost use mathlib.Core.Path.{_≡_};
+ghost use Prim.Native.Nat.{_+_, _*_, _<_};
+ghost use lib.ListN.{length, take, drop};
+ghost use Rattle.sha256.specs.Sha256.{sha256};
+ghost use Rattle.fri.specs.Judge.{sameBytes, named};
+ghost use Rattle.reader_model.specs.Items.{afterFirst, linked, atLeaf, afterSecond, climbed, finished, nextQuery, nextLayer, afterPath, afterSibling};
+ghost use Rattle.reader.specs.Private.{Sane};
+use crate::sections::at_query;
+use crate::state::moved;
+use crate::state::refuse;
+use field::Felt;
+use reader_model::Core;
+use reader_model::Stage;
+use reader_model::Walk;
+
+pub fn after_first(c: Core) -> Core
+    requires { ⌜ Sane c ⌝ }
+    ensures { λ r. ⌜ r ≡ afterFirst c ⌝ }
+{
+    let item = c.item;
+    let value = message::first_number(item);
+    if Felt::MODULUS <= value {
+        return refuse(c, answer::NOT_BELOW_MODULUS);
+    }
+    let mut next = c;
+    next.walk.first = value;
+    moved(next, Stage::Second)
+}
+
+// Of the two values, the one that the index names: the first where the index is its own leaf.
+fn named_value(c: Core, second: u32) -> u32
+    ensures { λ r. ⌜ r ≡ named (c .params) (c .cursor .layer) (c .walk .index) (c .walk .first) second ⌝ }
+{
+    let index = c.walk.index;
+    let leaf = domain::leaf_of(c.params.n, c.cursor.layer, index);
+    if leaf == index { c.walk.first } else { second }
+}
+
+// Whether the value that the index names is the folded one.
+fn is_linked(c: Core, second: u32) -> bool
+    ensures { λ r. ⌜ r ≡ linked c second ⌝ }
+{
+    let value = named_value(c, second);
+    fold::agrees(c.walk.scale, c.walk.folded, value)
+}
+
+// The walk at its leaf.
+fn at_leaf(c: Core, challenge: u32, second: u32) -> Walk
+    ensures { λ r. ⌜ r ≡ atLeaf sha256 c challenge second ⌝ }
+{
+    let first = c.walk.first;
+    let leaf = domain::leaf_of(c.params.n, c.cursor.layer, c.walk.index);
+    let x = domain::point(c.params.n, c.cursor.layer, leaf);
+    let scale = fold::scale(x);
+    let folded = fold::folded(x, challenge, first, second);
+    let node = merkle::leaf([first, second, 0, 0], 2);
+    Walk {
+        index: leaf,
+        position: leaf,
+        first: first,
+        scale: scale,
+        folded: folded,
+        node: node,
+    }
+}
+
+pub fn after_second(c: Core, challenges: &[u32; 16]) -> Core
+    requires { ⌜ Sane c ⌝ }
+    ensures { λ r. ⌜ r ≡ afterSecond sha256 c (now (challenges .entry)) ⌝ }
+{
+    let item = c.item;
+    let value = message::first_number(item);
+    if Felt::MODULUS <= value {
+        return refuse(c, answer::NOT_BELOW_MODULUS);
+    }
+    if is_linked(c, value) {
+        let layer = c.cursor.layer as usize;
+        let challenge = challenges[layer];
+        let walk = at_leaf(c, challenge, value);
+        let mut next = c;
+        next.walk = walk;
+        moved(next, Stage::Sibling)
+    } else {
+        refuse(c, answer::NOT_THE_FOLDED_VALUE)
+    }
+}
+
+// One node up.
+fn climb(c: Core) -> Walk
+    ensures { λ r. ⌜ r ≡ climbed sha256 c ⌝ }
+{
+    let mut walk = c.walk;
+    let node = walk.node;
+    let position = walk.position;
+    let sibling = c.item;
+    let above = merkle::parent(node, position as usize, sibling);
+    walk.position = position / 2;
+    walk.node = above;
+    walk
+}
+
+// Whether the node is the root of its layer.
+fn is_root(roots: &[u8], layer: usize, node: [u8; 32]) -> bool
+    requires { ⌜ (layer < 16) × (length (now roots) ≡ 512) ⌝ }
+    ensures { λ r. ⌜ r ≡ sameBytes node (take 32 (drop (32 * layer) (now (roots .entry)))) ⌝ }
+{
+    let at = 32 * layer;
+    let mut i = 0;
+    while i < 32 {
+        if node[i] != roots[at + i] {
+            return false;
+        }
+        i += 1;
+    }
+    true
+}
+
+// Whether the chain ends on the final polynomial.
+fn is_final(c: Core, coefficients: &[u32; 64]) -> bool
+    ensures { λ r. ⌜ r ≡ finished c (now (coefficients .entry)) ⌝ }
+{
+    let params = c.params;
+    let count = params::final_count(params);
+    let x = domain::point(params.n, params.k, c.walk.index);
+    let all = *coefficients;
+    let value = fold::eval(all, count, x);
+    fold::agrees(c.walk.scale, c.walk.folded, value)
+}
+
+// A query has ended: the next one, or the end of the file.
+fn next_query(c: Core) -> Core
+    requires { ⌜ Sane c ⌝ }
+    ensures { λ r. ⌜ r ≡ nextQuery sha256 c ⌝ }
+{
+    let after = c.cursor.query + 1;
+    if after < c.params.q {
+        let next = at_query(c, after);
+        moved(next, Stage::First)
+    } else {
+        moved(c, Stage::Tail)
+    }
+}
+
+// A layer has ended: the next one, or the final polynomial.
+fn next_layer(c: Core, coefficients: &[u32; 64]) -> Core
+    requires { ⌜ Sane c ⌝ }
+    ensures { λ r. ⌜ r ≡ nextLayer sha256 c (now (coefficients .entry)) ⌝ }
+{
+    let above = c.cursor.layer + 1;
+    if above < c.params.k {
+        let mut next = c;
+        next.cursor.layer = above;
+        next.cursor.height = 0;
+        return moved(next, Stage::First);
+    }
+    if is_final(c, coefficients) {
+        next_query(c)
+    } else {
+        refuse(c, answer::MISSES_FINAL_POLYNOMIAL)
+    }
+}
+
+// A path has ended.
+fn after_path(c: Core, roots: &[u8; 512], coefficients: &[u32; 64]) -> Core
+    requires { ⌜ Sane c ⌝ }
+    ensures { λ r. ⌜ r ≡ afterPath sha256 c (now (roots .entry)) (now (coefficients .entry)) ⌝ }
+{
+    let walk = c.walk;
+    let node = walk.node;
+    let layer = c.cursor.layer as usize;
+    if is_root(roots, layer, node) {
+        next_layer(c, coefficients)
+    } else {
+        refuse(c, answer::PATH_MISSES_ROOT)
+    }
+}
+
+pub fn after_sibling(c: Core, roots: &[u8; 512], coefficients: &[u32; 64]) -> Core
+    requires { ⌜ Sane c ⌝ }
+    ensures { λ r. ⌜ r ≡ afterSibling sha256 c (now (roots .entry)) (now (coefficients .entry)) ⌝ }
+{
+    let walk = climb(c);
+    let mut next = c;
+    next.walk = walk;
+    let params = c.params;
+    let height = params::height(params, c.cursor.layer);
+    let above = c.cursor.height + 1;
+    if (above as usize) < height {
+        next.cursor.height = above;
+        moved(next, Stage::Sibling)
+    } else {
+        after_path(next, roots, coefficients)
+    }
+}

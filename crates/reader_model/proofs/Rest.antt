@@ -1,0 +1,206 @@
+-- What is left of the judgement at each stage, by name, and what a state must hold for it. Assumes nothing.
+use Prim.Native.Nat.{ℕ, zero, suc, _+_, _%_, _/_, _<_}
+use mathlib.Core.List.{List, [], _∷_, _++_}
+use mathlib.Core.Path.{_≡_, refl}
+use lib.Dec.{ltb, eqb}
+use lib.ListN.{length}
+use Rattle.answer.specs.Table.{answered, count-differs, parameters-differ, not-below-modulus, not-the-folded-value, path-misses-root}
+use Rattle.field.specs.Modular.{p as modulus}
+use Rattle.message.specs.Bytes.{num, joined}
+use Rattle.message.specs.Message.{Digest}
+use Rattle.message.proofs.Bytes.{Sized}
+use Rattle.params.specs.declared.Params.{Params}
+use Rattle.params.specs.Parameters.{Valid, header, finalCount, height}
+use Rattle.domain.specs.Domain.{half, point}
+use Rattle.merkle.specs.Merkle.{climb, leaf, join}
+use Rattle.transcript.specs.Transcript.{start, absorb, challenge, finish, absorbed}
+use Rattle.fold.specs.Fold.{Expected, expected, fits}
+use Rattle.fri.specs.Process.{Process, bytes, ensure, many, pure, _>>=_, _>>_, done, fail, need}
+use Rattle.fri.specs.Judge.{sameBytes, named, count, number, walk, queries, sections, judgement}
+use Rattle.reader_model.specs.declared.Stage.{Stage}
+use Rattle.reader_model.specs.declared.Stage.the-variants.{ParameterCount, Parameters, RootCount, Root, CoefficientCount, Coefficient, QueryCount, First, Second, Sibling, Tail}
+use Rattle.reader_model.specs.declared.Cursor.{Cursor}
+use Rattle.reader_model.specs.declared.Walk.{Walk}
+use Rattle.reader_model.specs.declared.Core.{Core}
+use Rattle.reader_model.specs.declared.Tables.{Tables}
+use Rattle.reader_model.specs.State.{stopped}
+use Rattle.reader_model.proofs.Filled.{Filled, challenges}
+
+-- With the bytes of a section's count: the rest, if they are that count. With the bytes of a number: the rest of it, if it is below the modulus.
+abbrev pub counting : ℕ → Process → List ℕ → Process
+counting c rest two = ensure (eqb (num two) c) count-differs (λ _. rest)
+
+abbrev pub numbered : (ℕ → Process) → List ℕ → Process
+numbered rest four = ensure (ltb (num four) modulus) not-below-modulus (λ _. rest (num four))
+
+-- What the walk wants of the next value.
+abbrev pub wanted : Walk → Expected
+wanted w = record { scale = w .scale; folded = w .folded }
+
+module _ (hash : List ℕ → Digest) (p : Params) (context : List ℕ) where
+  -- The transcript at the start, and the one that draws the queries.
+  abbrev pub opening : Digest
+  opening = start hash (header p) context
+
+  abbrev pub drawing : List Digest → List ℕ → Digest
+  drawing roots final = finish hash (absorbed hash opening roots) final
+
+  -- What is left before count queries from query i on; before the sections 4, 3 and 2; and with the bytes of the parameters.
+  abbrev pub toQueries : List Digest → List ℕ → ℕ → ℕ → Process
+  toQueries roots final count i = queries hash p count i final (drawing roots final) opening roots (λ _. done)
+
+  abbrev pub toSection4 : List Digest → List ℕ → Process
+  toSection4 roots final = need 2 (counting (p .q) (toQueries roots final (p .q) 0))
+
+  abbrev pub toSection3 : List Digest → Process
+  toSection3 roots = need 2 (counting (finalCount p) (many (finalCount p) number (λ final. toSection4 roots final)))
+
+  abbrev pub toSection2 : Process
+  toSection2 = need 2 (counting (p .k) (many (p .k) (bytes 32) (λ roots. toSection3 roots)))
+
+  -- With a root after these roots, and with a coefficient after these: so many more, then the next section.
+  abbrev pub withRoot : List Digest → ℕ → Digest → Process
+  withRoot roots more root = many more (bytes 32) (λ rest. toSection3 (roots ++ root ∷ rest))
+
+  abbrev pub withCoefficient : List Digest → List ℕ → ℕ → ℕ → Process
+  withCoefficient roots final more v = many more number (λ rest. toSection4 roots (final ++ v ∷ rest))
+
+  abbrev pub withParameters : List ℕ → Process
+  withParameters four = ensure (sameBytes four (header p)) parameters-differ (λ _. toSection2)
+
+  pub judgement-is : judgement hash p context ≡ need 2 (counting 4 (need 4 withParameters))
+  unfolding judgement sections _>>=_ _>>_ bytes count
+  judgement-is = refl
+
+  -- The tables hold these roots with their challenges, and these coefficients.
+  pub record Read (t : Tables) (roots : List Digest) (final : List ℕ) : Type 0 where
+    pub sized : Sized 32 roots
+    pub roots-kept : Filled 512 (joined roots) (t .roots)
+    pub challenges-kept : Filled 16 (challenges hash opening roots) (t .challenges)
+    pub final-kept : Filled 64 final (t .coefficients)
+
+  -- In sections 1 to 3: so much is read, the next coefficient and the transcript follow it.
+  pub record Early (coefficient : ℕ) (transcript : Digest) (t : Tables) (roots : List Digest) (final : List ℕ) : Type 0 where
+    pub read : Read t roots final
+    pub coefficient-next : length final ≡ coefficient
+    pub transcript-is : transcript ≡ absorbed hash opening roots
+
+  -- In section 4: the sections before it are read, and the transcript draws the queries.
+  pub record Late (transcript : Digest) (t : Tables) (roots : List Digest) (final : List ℕ) : Type 0 where
+    pub read : Read t roots final
+    pub transcript-is : transcript ≡ drawing roots final
+    pub all-roots : length roots ≡ p .k
+    pub all-final : length final ≡ finalCount p
+
+  -- In this layer of this query: `more` queries follow it, the layer's root is `root`, and `earlier` is the transcript before that root.
+  pub record Walking (query layer : ℕ) (transcript : Digest) (t : Tables) : Type 0 where
+    pub roots : List Digest
+    pub final : List ℕ
+    pub late : Late transcript t roots final
+    pub more : ℕ
+    pub queries-are : suc query + more ≡ p .q
+    pub before : List Digest
+    pub root : Digest
+    pub after : List Digest
+    pub roots-are : roots ≡ before ++ root ∷ after
+    pub layer-is : length before ≡ layer
+    pub earlier : Digest
+    pub earlier-is : earlier ≡ absorbed hash opening before
+
+  module _ {query layer : ℕ} {transcript : Digest} {t : Tables} (w : Walking query layer transcript t) where
+    -- What is left after the query; after the layer, at the index m, where the next value must meet e; and before count siblings more.
+    abbrev pub toNext : Process
+    toNext = toQueries (w .roots) (w .final) (w .more) (suc query)
+
+    abbrev pub toLayers : ℕ → Expected → Process
+    toLayers m e = walk hash p (w .final) (suc layer) m e (absorb hash (w .earlier) (w .root)) (w .after) (λ _. toNext)
+
+    abbrev pub withNode : ℕ → Expected → Digest → Process
+    withNode m e node = ensure (sameBytes node (w .root)) path-misses-root (λ _. toLayers m e)
+
+    abbrev pub toSiblings : ℕ → Expected → ℕ → Digest → ℕ → Process
+    toSiblings m e count node position = many count (bytes 32) (λ siblings. withNode m e (climb hash node position siblings))
+
+    -- With both values of the layer, and with the first one, at the index m, where they must meet e.
+    abbrev pub withPair : ℕ → Expected → ℕ → ℕ → Process
+    withPair m e a c =
+        ensure (fits e (named p layer m a c)) not-the-folded-value
+        (λ _. toSiblings (m % half (p .n) layer)
+        (expected (point (p .n) layer (m % half (p .n) layer)) (challenge hash (absorb hash (w .earlier) (w .root))) a c)
+        (height p layer) (leaf hash (a ∷ c ∷ [])) (m % half (p .n) layer))
+
+    abbrev pub withFirst : ℕ → Expected → ℕ → Process
+    withFirst m e a = need 4 (numbered (withPair m e a))
+
+    pub walk-is : (m : ℕ) (e : Expected)
+        → walk hash p (w .final) layer m e (w .earlier) (w .root ∷ w .after) (λ _. toNext) ≡ need 4 (numbered (withFirst m e))
+    unfolding walk number _>>=_ _>>_ bytes pure
+    walk-is m e = refl
+
+    pub siblings-more : (m : ℕ) (e : Expected) (count : ℕ) (node : Digest) (position : ℕ)
+        → toSiblings m e (suc count) node position ≡ need 32 (λ x. toSiblings m e count (join hash (position % 2) node x) (position / 2))
+    unfolding many climb _>>=_ bytes pure
+    siblings-more m e count node position = refl
+
+    pub siblings-none : (m : ℕ) (e : Expected) (node : Digest) (position : ℕ) → toSiblings m e zero node position ≡ withNode m e node
+    unfolding many climb pure
+    siblings-none m e node position = refl
+
+-- The bounds of every state that is not stopped. Written over the parts, so that a step keeps it where it keeps them.
+pub record Bounds (p : Params) (item : List ℕ) (coefficient query layer height : ℕ) : Type 0 where
+  pub valid : Valid p
+  pub item-size : length item ≡ 32
+  pub coefficient-low : coefficient < 64
+  pub query-low : query < 128
+  pub layer-low : layer < 16
+  pub height-low : height < 32
+
+-- The same at another cursor.
+pub at-cursor : {p : Params} {item : List ℕ} {i j k h coefficient query layer height : ℕ} → Bounds p item i j k h
+    → coefficient < 64 → query < 128 → layer < 16 → height < 32 → Bounds p item coefficient query layer height
+at-cursor s a b c d =
+    record { valid = s .valid; item-size = s .item-size; coefficient-low = a; query-low = b; layer-low = c; height-low = d }
+
+abbrev pub Sound : Core → Type 0
+Sound c = Bounds (c .params) (c .item) (c .cursor .coefficient) (c .cursor .query) (c .cursor .layer) (c .cursor .height)
+
+module _ (hash : List ℕ → Digest) (context : List ℕ) where
+  abbrev pub EarlyAt : Core → Tables → List Digest → List ℕ → Type 0
+  EarlyAt c t roots final = Early hash (c .params) context (c .cursor .coefficient) (c .transcript) t roots final
+
+  abbrev pub WalkingAt : Core → Tables → Type 0
+  WalkingAt c t = Walking hash (c .params) context (c .cursor .query) (c .cursor .layer) (c .transcript) t
+
+  -- A state with these parts waits for an item of so many bytes, and with them this is left.
+  pub data Waiting (p : Params) (c : Cursor) (w : Walk) (transcript : Digest) (t : Tables) : Stage → ℕ → (List ℕ → Process) → Type 0 where
+    parameter-count : Early hash p context (c .coefficient) transcript t [] [] → c .layer ≡ 0
+        → Waiting p c w transcript t ParameterCount 2 (counting 4 (need 4 (withParameters hash p context)))
+    parameters : Early hash p context (c .coefficient) transcript t [] [] → c .layer ≡ 0
+        → Waiting p c w transcript t Parameters 4 (withParameters hash p context)
+    root-count : Early hash p context (c .coefficient) transcript t [] [] → c .layer ≡ 0
+        → Waiting p c w transcript t RootCount 2 (counting (p .k) (many (p .k) (bytes 32) (toSection3 hash p context)))
+    root : {roots : List Digest} (more : ℕ) → Early hash p context (c .coefficient) transcript t roots [] → c .layer ≡ length roots
+        → length roots + suc more ≡ p .k → Waiting p c w transcript t Root 32 (withRoot hash p context roots more)
+    coefficient-count : {roots : List Digest} → Early hash p context (c .coefficient) transcript t roots [] → length roots ≡ p .k
+        → Waiting p c w transcript t CoefficientCount 2 (counting (finalCount p) (many (finalCount p) number (toSection4 hash p context roots)))
+    coefficient : {roots : List Digest} {final : List ℕ} (more : ℕ) → Early hash p context (c .coefficient) transcript t roots final
+        → length roots ≡ p .k → length final + suc more ≡ finalCount p
+        → Waiting p c w transcript t Coefficient 4 (numbered (withCoefficient hash p context roots final more))
+    query-count : {roots : List Digest} {final : List ℕ} → Late hash p context transcript t roots final
+        → Waiting p c w transcript t QueryCount 2 (counting (p .q) (toQueries hash p context roots final (p .q) 0))
+    first : (x : Walking hash p context (c .query) (c .layer) transcript t) → c .height ≡ 0
+        → Waiting p c w transcript t First 4 (numbered (withFirst hash p context x (w .index) (wanted w)))
+    second : (x : Walking hash p context (c .query) (c .layer) transcript t) → c .height ≡ 0
+        → Waiting p c w transcript t Second 4 (numbered (withPair hash p context x (w .index) (wanted w) (w .first)))
+    sibling : (x : Walking hash p context (c .query) (c .layer) transcript t) (more : ℕ) → c .height + suc more ≡ height p (c .layer)
+        → Waiting p c w transcript t Sibling 32
+        (λ digest. toSiblings hash p context x (w .index) (wanted w) more (join hash (w .position % 2) (w .node) digest) (w .position / 2))
+
+  abbrev pub At : Core → Tables → Stage → ℕ → (List ℕ → Process) → Type 0
+  At c t = Waiting (c .params) (c .cursor) (c .walk) (c .transcript) t
+
+  -- The state after an item that ended at this place, where this is left. A refused reader's tables stay as they are.
+  pub data After (c : Core) (t : Tables) (place : ℕ) : Process → Type 0 where
+    goes : {u : ℕ} {f : List ℕ → Process} → Sound c → At c t (c .stage) u f → c .fill ≡ 0 → c .cursor .start ≡ place → After c t place (need u f)
+    ends : Sound c → c .stage ≡ Tail → c .fill ≡ 0 → c .cursor .start ≡ place → After c t place done
+    stops : {number : ℕ} → c ≡ stopped (answered number place) → After c t place (fail number)

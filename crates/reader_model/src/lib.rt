@@ -1,0 +1,71 @@
+// The reader's state. The crate has no functions: its definitions are the model of the reader, its theorem the claim about the model. The code that
+// equals the model is in the crate above.
+use answer::Answer;
+use params::Params;
+
+// What the current item is. Tail: the file is whole, and one byte more would be too many. Stopped: refused or closed, no item is read any more.
+pub enum Stage {
+    ParameterCount,
+    Parameters,
+    RootCount,
+    Root,
+    CoefficientCount,
+    Coefficient,
+    QueryCount,
+    First,
+    Second,
+    Sibling,
+    Tail,
+    Stopped,
+}
+
+// Where the current item stands: the bytes before it, and its coefficient, query, layer and height.
+pub struct Cursor {
+    pub start: u32,
+    pub coefficient: usize,
+    pub query: u8,
+    pub layer: u8,
+    pub height: u8,
+}
+
+// A query's walk: its index in the layer, the number of the node at its height, the first value, what the next layer's value must meet (scale times it
+// is folded), and the node.
+pub struct Walk {
+    pub index: u32,
+    pub position: u32,
+    pub first: u32,
+    pub scale: u32,
+    pub folded: u32,
+    pub node: [u8; 32],
+}
+
+// What changes from item to item. The answer is that of a stopped reader.
+pub struct Core {
+    pub stage: Stage,
+    pub answer: Answer,
+    pub fill: usize,
+    pub item: [u8; 32],
+    pub params: Params,
+    pub cursor: Cursor,
+    pub walk: Walk,
+    pub transcript: [u8; 32],
+}
+
+// What sections 2 and 3 leave: the roots joined, the challenges, and the final coefficients. Sized for 16 layers.
+pub struct Tables {
+    pub roots: [u8; 512],
+    pub challenges: [u32; 16],
+    pub coefficients: [u32; 64],
+}
+
+// The reader's state: the small part, which goes from call to call by value, and the large one, which stays where it is.
+pub struct Reader {
+    pub core: Core,
+    pub tables: Tables,
+}
+
+// What a call gives: its answer, and the state that it leaves.
+pub struct Reply {
+    pub answer: Answer,
+    pub state: Reader,
+}
