@@ -5,6 +5,8 @@ mod table;
 
 use peers::answer::Answer;
 use peers::fold;
+use peers::params::Params;
+use peers::proof;
 use peers::rng::Rng;
 use peers::sha256::Digest;
 use peers::Coefficients;
@@ -22,6 +24,7 @@ fn main() {
     points(&mut table, &mut rng);
     evaluations(&mut table, &mut rng);
     folds(&mut table, &mut rng);
+    verdicts(&mut table, &mut rng);
 
     let wanted: Vec<String> = std::env::args().skip(1).collect();
     if !wanted.is_empty() {
@@ -240,4 +243,50 @@ fn folds(table: &mut Table, rng: &mut Rng) {
         "agrees; Rust by the same products",
         batch(peers::agrees_by_products),
     );
+}
+
+/// The verdict on a built proof. The ordinary verifier has the whole slice; ours is
+/// fed in pieces of the given size.
+fn verdicts(table: &mut Table, rng: &mut Rng) {
+    type Call = unsafe extern "C" fn(Params, &Digest, *const u8, usize, usize) -> Answer;
+    const WHOLE: usize = usize::MAX;
+    let rows: [(u8, u8, u8, u8, &[(usize, &str)]); 3] = [
+        (10, 2, 4, 16, &[(WHOLE, "in one piece")]),
+        (16, 4, 8, 32, &[(WHOLE, "in one piece")]),
+        (
+            20,
+            2,
+            12,
+            64,
+            &[
+                (WHOLE, "in one piece"),
+                (4096, "in pieces of 4,096 bytes"),
+                (64, "in pieces of 64 bytes"),
+                (1, "in pieces of one byte"),
+            ],
+        ),
+    ];
+    for (n, b, k, q, cuts) in rows {
+        let params = Params::new(n, b, k, q);
+        let context = rng.digest();
+        // Most of a large proof's time is building it, so its polynomial is short.
+        let file = proof::build(params, &context, &rng.elements(3));
+        for &(size, cut) in cuts {
+            let sides = Sides::<Call> {
+                ours: ours::test_verdict_in_pieces,
+                peer: peers::verdict,
+            };
+            let name = format!("verdict {n},{b},{k},{q} ({} bytes) {cut}", file.len());
+            let batch = Batch::each(
+                sides,
+                vec![file.clone()],
+                Answer::DONE,
+                move |call, file, answer| {
+                    // The pointer and the length are those of one slice.
+                    *answer = unsafe { call(params, &context, file.as_ptr(), file.len(), size) };
+                },
+            );
+            table.row(name, batch);
+        }
+    }
 }

@@ -2,6 +2,7 @@
 //! length there, and an array of fixed size is a pointer.
 
 use peers::answer::Answer;
+use peers::params::Params;
 use peers::sha256::Digest;
 use peers::Coefficients;
 
@@ -20,4 +21,13 @@ unsafe extern "C" {
     pub safe fn test_point(n: u8, layer: u8, index: u32) -> u32;
     pub safe fn test_eval(coefficients: &Coefficients, count: usize, x: u32) -> u32;
     pub safe fn test_agrees(x: u32, beta: u32, a: u32, c: u32, v: u32) -> bool;
+
+    /// The proof must be readable for `len` bytes.
+    pub unsafe fn test_verdict_in_pieces(
+        params: Params,
+        context: &Digest,
+        proof: *const u8,
+        len: usize,
+        size: usize,
+    ) -> Answer;
 }

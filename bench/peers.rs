@@ -12,10 +12,14 @@ pub mod domain;
 pub mod field;
 #[path = "../tests/independent/fold.rs"]
 pub mod fold;
+#[path = "../tests/independent/judge.rs"]
+pub mod judge;
 #[path = "../tests/independent/merkle.rs"]
 pub mod merkle;
 #[path = "../tests/independent/params.rs"]
 pub mod params;
+#[path = "../tests/independent/proof.rs"]
+pub mod proof;
 #[path = "../tests/independent/rng.rs"]
 pub mod rng;
 #[path = "../tests/independent/sha256.rs"]
@@ -25,6 +29,7 @@ pub mod transcript;
 
 use answer::Answer;
 use field::P;
+use params::Params;
 use sha256::{public_hash, Digest};
 use transcript::Transcript;
 
@@ -127,4 +132,19 @@ pub extern "C" fn agrees_by_products(x: u32, beta: u32, a: u32, c: u32, v: u32) 
         field::mul(beta, field::sub(a, c)),
     );
     field::mul(field::mul(2, x), v) == right
+}
+
+/// The verifier over a whole slice. `size` is for the other side, which may be
+/// fed in pieces; this one always has the file at once.
+/// The proof must be readable for `len` bytes.
+#[inline(never)]
+pub unsafe extern "C" fn verdict(
+    params: Params,
+    context: &Digest,
+    proof: *const u8,
+    len: usize,
+    _size: usize,
+) -> Answer {
+    let proof = unsafe { std::slice::from_raw_parts(proof, len) };
+    judge::verdict(params, context, proof)
 }

@@ -124,7 +124,9 @@ mod tests {
 
     #[test]
     fn tampered_answers_are_caught() {
-        let scripts: Vec<Script> = RandomScripts::new(51).take(12).collect();
+        // Short ones, because they are judged anew for each tampered line.
+        let is_short = |script: &Script| script.to_bytes().len() < 1000 && script.calls.len() < 9;
+        let scripts: Vec<Script> = RandomScripts::new(51).filter(is_short).take(15).collect();
         let lines = answers(&scripts);
         for at in 0..lines.len() {
             let mut altered = lines.clone();

@@ -323,7 +323,7 @@ mod tests {
         assert!(numbers.contains(&23));
         assert!(numbers_of(of_other_parameters, 200).contains(&21));
         assert_eq!(numbers_of(empty, 20), [26]);
-        assert_eq!(numbers_of(random_bytes, 200), [20, 26]);
+        assert!(numbers_of(random_bytes, 200).contains(&20));
     }
 
     /// Which items of a proof differ after the damage, and the lengths.

@@ -58,15 +58,15 @@ module _ (hash : List ℕ → Digest) (p : Params) (context : List ℕ) where
   abbrev pub toSection2 : Process
   toSection2 = need 2 (counting (p .k) (many (p .k) (bytes 32) (λ roots. toSection3 roots)))
 
+  abbrev pub withParameters : List ℕ → Process
+  withParameters four = ensure (sameBytes four (header p)) parameters-differ (λ _. toSection2)
+
   -- With a root after these roots, and with a coefficient after these: so many more, then the next section.
   abbrev pub withRoot : List Digest → ℕ → Digest → Process
   withRoot roots more root = many more (bytes 32) (λ rest. toSection3 (roots ++ root ∷ rest))
 
   abbrev pub withCoefficient : List Digest → List ℕ → ℕ → ℕ → Process
   withCoefficient roots final more v = many more number (λ rest. toSection4 roots (final ++ v ∷ rest))
-
-  abbrev pub withParameters : List ℕ → Process
-  withParameters four = ensure (sameBytes four (header p)) parameters-differ (λ _. toSection2)
 
   pub judgement-is : judgement hash p context ≡ need 2 (counting 4 (need 4 withParameters))
   unfolding judgement sections _>>=_ _>>_ bytes count
@@ -108,7 +108,8 @@ module _ (hash : List ℕ → Digest) (p : Params) (context : List ℕ) where
     pub earlier-is : earlier ≡ absorbed hash opening before
 
   module _ {query layer : ℕ} {transcript : Digest} {t : Tables} (w : Walking query layer transcript t) where
-    -- What is left after the query; after the layer, at the index m, where the next value must meet e; and before count siblings more.
+    -- What is left after the query; after the layer, at the index m, where the next value must meet e; with the node that a path ends on; and before
+    -- count siblings more, above a node with this number in its row.
     abbrev pub toNext : Process
     toNext = toQueries (w .roots) (w .final) (w .more) (suc query)
 
@@ -146,7 +147,7 @@ module _ (hash : List ℕ → Digest) (p : Params) (context : List ℕ) where
     unfolding many climb pure
     siblings-none m e node position = refl
 
--- The bounds of every state that is not stopped. Written over the parts, so that a step keeps it where it keeps them.
+-- The bounds of every state that is not stopped. They are stated of its parts, so that a step which keeps the parts keeps the bounds.
 pub record Bounds (p : Params) (item : List ℕ) (coefficient query layer height : ℕ) : Type 0 where
   pub valid : Valid p
   pub item-size : length item ≡ 32

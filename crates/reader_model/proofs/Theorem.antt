@@ -14,7 +14,7 @@ use Rattle.params.proofs.ParameterLaws.{valid-test, valid-facts}
 use Rattle.fri.specs.Judge.{verdict}
 use Rattle.fri.proofs.Width.{judgement-width}
 use Rattle.fri.proofs.Exactly.{accepted-exactly}
-use Rattle.calls.specs.Calls.{Call, piece, end, hasEnd, endsOnce, joined, stateAfter, answers, lastGiven, byByte}
+use Rattle.calls.specs.Calls.{Call, piece, end, hasEnd, endsOnce, joined, stateAfter, answers, lastGiven, byByte, Reader as Calls}
 use Rattle.calls.proofs.Follows.{Shut, state-left, shut-by-byte, refused-opening, refused-leaves}
 use Rattle.calls.proofs.Denotes.{follows, denotes-demand3, denotes-states, denotes-prefix, denotes-size, piece-judged, end-judged, ends-judged}
 use Rattle.reader_model.specs.declared.Reader.{Reader}
@@ -26,6 +26,10 @@ use Rattle.reader_model.proofs.Whole.{says, endsWith, Reached, reaches,
 
 -- A piece after a piece is the one piece of both, so the pieces of a list are the one piece of all their bytes.
 module _ (hash : List ℕ → Digest) where
+  pub fed-none : (r : Reader) → fed hash r [] ≡ r
+  unfolding fed
+  fed-none r = refl
+
   pub fed-append : (r : Reader) (xs ys : List ℕ) → fed hash (fed hash r xs) ys ≡ fed hash r (xs ++ ys)
   unfolding fed
   fed-append r xs ys = sym (foldl-append (step hash) r xs ys)
@@ -35,7 +39,6 @@ module _ (hash : List ℕ → Digest) where
   fed-joined r [] = refl
   fed-joined r (xs ∷ pieces) = fed-joined (fed hash r xs) pieces ∙ fed-append r xs (Bytes.joined pieces)
 
--- What an opening leaves and answers, with valid parameters and with others.
 module _ (hash : List ℕ → Digest) (p : Params) (context : List ℕ) where
   invalid : (Valid p → ⊥) → valid p ≡ false
   invalid never = by (valid p) refl
@@ -45,14 +48,15 @@ module _ (hash : List ℕ → Digest) (p : Params) (context : List ℕ) where
       by false e = refl
 
   -- The reader as one that goes byte by byte, from the state r on.
-  abbrev from : Reader → Rattle.calls.specs.Calls.Reader Reader
+  abbrev from : Reader → Calls Reader
   from r = byByte r (step hash) (says hash) endsWith closedState
 
+  -- An opening with parameters that are not valid, and one with valid ones.
   refused-claim : (Valid p → ⊥) → (cs : List Call) → Refused hash p context cs
   unfolding opened pieced fed ended verdict
   refused-claim never cs =
       let e = invalid never in
-      let shut : Shut (from closedState) closedState = shut-by-byte closedState (step hash) (says hash) endsWith closedState (shuts hash context) in
+      let shut = shut-by-byte closedState (step hash) (says hash) endsWith closedState (shuts hash context) in
       record {
         answer = rw e;
         plainly = rw e (refused-opening (table hash p context) (from closedState) shut cs);
@@ -74,7 +78,7 @@ module _ (hash : List ℕ → Digest) (p : Params) (context : List ℕ) where
     unfolding opened pieced fed ended verdict
     end-verdict cs e = rw (valid-test p v) (end-judged (denotes hash context p v) cs e)
 
-    -- The calls before the first end call reach a state; an end call leaves the closed one.
+    -- Calls with no end call among them reach a state.
     reached : (cs : List Call) (r : Reader) → Reached hash context r → hasEnd cs ≡ false
         → Reached hash context (stateAfter (from (started hash p context)) r cs)
     reached [] r h e = h

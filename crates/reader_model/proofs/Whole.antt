@@ -1,7 +1,7 @@
 -- Every state of the model stands for what is left of the judgement: within an item, at its last byte, after the file, refused and closed. And every
 -- state that is reached is within the bounds that the model tests. Assumes nothing.
 use Prim.Native.Nat.{ℕ, suc, _+_, _<_, _≤_}
-use mathlib.Core.Bool.{Bool, true, false}
+use mathlib.Core.Bool.{Bool, true, false, cond}
 use mathlib.Core.List.{List, [], _∷_, _++_, foldl}
 use mathlib.Core.Path.{_≡_, refl, ap, sym, _∙_, subst, subst₂}
 use native.Mathlib.Numerals.{add-one}
@@ -11,7 +11,7 @@ use lib.ListN.{length, take, set, length-set}
 use lib.Seq.{take-all, take-suc-set, length-take-le}
 use borrow.Author.Tests.{lt-ltb, le-ltb, le-leb, ltb-true, ltb-false}
 use Rattle.answer.specs.declared.Answer.{Answer}
-use Rattle.answer.specs.Table.{answered, accepted, closed, byte-after-the-end}
+use Rattle.answer.specs.Table.{answered, accepted, closed, too-few-bytes, byte-after-the-end}
 use Rattle.message.specs.Bytes.{joined}
 use Rattle.message.specs.Message.{Digest}
 use Rattle.message.proofs.Bytes.{Sized}
@@ -271,9 +271,9 @@ module _ (hash : List ℕ → Digest) (context : List ℕ) where
 
   end-said : {r : Reader} {q : Process} {d : ℕ} {held : List ℕ} → Stands hash context r q held d → endsWith r ≡ endAnswer (outcome q [] d) d
   unfolding ended answerOf outcome endAnswer
-  end-said {r} (reads {u} s a h l e w few) =
+  end-said {r} (reads {u} {d = d} s a h l e w few) =
       let here = waits hash context (r .core .stage) u a in
-      rw (here .not-stopped, here .not-tail, sane-is (r .core) s (omega arith) (omega arith), e)
+      rw (here .not-stopped, sane-is (r .core) s (omega arith) (omega arith), e) (ap (λ b. answered (cond b accepted too-few-bytes) d) (here .not-tail))
   end-said {r} (whole {d} s tail none e few) =
       let there : place (r .core) ≡ d = omega arith in
       rw (sane-is (r .core) s (omega arith) (omega arith), tail, there)
@@ -303,6 +303,18 @@ module _ (hash : List ℕ → Digest) (context : List ℕ) where
 
   pub started-reached : (p : Params) → Valid p → Reached (started hash p context)
   started-reached p v = record { process = judgement hash p context; held = []; total = 0; stands = starts p v }
+
+  -- Such a state is within the bounds, so the model's own test of them never fails.
+  sane-by : (r : Reader) (q : Process) (held : List ℕ) (d : ℕ) → Stands hash context r q held d → sane (r .core) ≡ true
+  unfolding sane
+  sane-by r (need u f) held d (reads s a h l e w few) =
+      let here = waits hash context (r .core .stage) u a in
+      sane-is (r .core) s (omega arith) (omega arith)
+  sane-by r done held d (whole s tail none e few) = sane-is (r .core) s (omega arith) (omega arith)
+  sane-by r (fail number) held d (refusing e) = rw e
+
+  pub reached-sane : {r : Reader} → Reached r → sane (r .core) ≡ true
+  reached-sane {r} h = sane-by r (h .process) (h .held) (h .total) (h .stands)
 
   -- What a refusal leaves of the small part.
   refused-by : (r : Reader) (q : Process) (held : List ℕ) (d : ℕ) → Stands hash context r q held d → accepted < says hash r .number

@@ -14,8 +14,7 @@ use Rattle.params.specs.Parameters.{Valid, fileLength}
 use Rattle.fri.specs.Process.{run}
 use Rattle.fri.specs.Judge.{judgement, pieceAnswer, endAnswer, verdict}
 use Rattle.fri.specs.Accepted.{Accepted}
-use Rattle.calls.specs.Calls.{Call, hasEnd, endsOnce, joined, leaves, given, nth, lastGiven, Refuses}
-use Rattle.calls.specs.Calls.{Reader as Calls}
+use Rattle.calls.specs.Calls.{Call, hasEnd, endsOnce, joined, leaves, given, nth, lastGiven, Refuses, Reader as Calls}
 use Rattle.calls.specs.Plain.{Table, plain}
 use Rattle.calls.specs.Demand3.{Demand3, PrefixRule, StateRule, SizeRule, toPiece}
 use Rattle.calls.specs.Judged.{tableOf}

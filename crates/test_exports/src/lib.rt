@@ -2,3 +2,4 @@
 // its contract is that of the call it names.
 mod leaves;
 mod parts;
+mod whole;
