@@ -238,7 +238,7 @@ fn extend(rng: &mut Rng, _: Params, bytes: &mut Vec<u8>) {
     match rng.below(4) {
         0 => bytes.push(0),
         1 => bytes.extend(rng.bytes(1)),
-        2 => bytes.extend_from_within(..),
+        2 => bytes.extend_from_within(..bytes.len().min(100)),
         _ => {
             let count = rng.between(2, 40);
             bytes.extend(rng.bytes(count));

@@ -14,9 +14,13 @@ pub const MOST_CALLS: usize = 400;
 /// Of these, calls beside the pieces of the file, at most.
 const MOST_OTHER_CALLS: usize = 10;
 
-/// Cuts of a file, at most, and at most if it takes long to judge. A file is at
-/// most so long that the longest pieces need four further cuts.
-const MOST_CUTS: usize = MOST_CALLS - MOST_OTHER_CALLS - 1 - 4;
+/// Pieces that a file is cut into because one would be too long, at most.
+const MOST_SPLITS: usize = 4;
+
+/// Cuts of a file, at most; between them lies one piece more.
+const MOST_CUTS: usize = MOST_CALLS - MOST_OTHER_CALLS - MOST_SPLITS - 1;
+
+/// Cuts of a file that takes long to judge, at most.
 const FEW_CUTS: usize = 6;
 
 /// The plain reader judges all bytes anew at each piece. This bounds the
@@ -85,25 +89,20 @@ fn any_params_not_valid(rng: &mut Rng) -> Params {
     let k = rng.between(1, 12);
     let q = rng.between(1, 64);
     let rest = rng.below(7);
-    let (n, b, k, q) = match rng.below(9) {
+    let (n, b, k, q) = match rng.below(11) {
         0 => (rng.below(2), 1, 1, q),
         1 => (rng.pick(&[21, 21, 22, 26]), 8, 12, q),
-        2 => {
-            let b = rng.pick(&[0, 0, 9, 10]);
-            let k = k.clamp(2, 4);
-            (b + k + rest, b, k, q)
+        2 => (k.max(2) + rest, 0, k.max(2), q),
+        3 => {
+            let b = rng.pick(&[9, 9, 10]);
+            (b + k.min(4) + rest, b, k.min(4), q)
         }
-        3 => ((b + rest).max(2), b, 0, q),
-        4 => (20, b.min(7), 13, q),
-        5 => {
-            let q = rng.pick(&[0, 0, 65, 65, 66, 255]);
-            return Params {
-                q,
-                ..any_valid_params(rng)
-            };
-        }
-        6 => (b + k.min(11), b, k.min(11) + 1, q),
-        7 => (b.min(6) + k.min(7) + 7, b.min(6), k.min(7), q),
+        4 => ((b + rest).max(2), b, 0, q),
+        5 => (20, b.min(7), 13, q),
+        6 => (b + k, b, k, 0),
+        7 => (b + k, b, k, rng.pick(&[65, 65, 66, 255])),
+        8 => (b + k.min(11), b, k.min(11) + 1, q),
+        9 => (b.min(6) + k.min(7) + 7, b.min(6), k.min(7), q),
         _ => {
             let mut byte = || rng.below(256);
             (byte(), byte(), byte(), byte())
@@ -188,12 +187,14 @@ fn thin_out(rng: &mut Rng, cuts: &mut Vec<usize>, most: usize) {
     let surplus = cuts.len().saturating_sub(most);
     if rng.one_in(2) {
         cuts.drain(..rng.between(0, surplus));
-        cuts.truncate(most);
-    } else {
-        for _ in 0..surplus {
-            cuts.remove(rng.below(cuts.len()));
+    } else if surplus > 0 {
+        let last = cuts.len() - 1;
+        for place in 0..most {
+            cuts.swap(place, rng.between(place, last));
         }
     }
+    cuts.truncate(most);
+    cuts.sort();
 }
 
 fn most_cuts(params: Params) -> usize {
@@ -356,7 +357,7 @@ mod tests {
         // The most cuts, the longest file and the most further calls.
         let mut rng = Rng::new(63);
         let params = Params::new(13, 1, 12, 64);
-        let longest = vec![0; 2 * params.file_length()];
+        let longest = vec![0; params.file_length() + 1000];
         let cuts = vec![0; MOST_CUTS];
         for _ in 0..200 {
             let calls = any_calls(&mut rng, pieces(&longest, &cuts));
