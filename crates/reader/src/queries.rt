@@ -14,6 +14,7 @@ use reader_model::Core;
 use reader_model::Stage;
 use reader_model::Walk;
 
+// The first value is kept until the second one is there.
 pub fn after_first(c: Core) -> Core
     requires { ⌜ Sane c ⌝ }
     ensures { λ r. ⌜ r ≡ afterFirst c ⌝ }
@@ -65,6 +66,7 @@ fn at_leaf(c: Core, challenge: u32, second: u32) -> Walk
     }
 }
 
+// Both values are there: the one that the index names must be the folded one, and the leaf is hashed.
 pub fn after_second(c: Core, challenges: &[u32; 16]) -> Core
     requires { ⌜ Sane c ⌝ }
     ensures { λ r. ⌜ r ≡ afterSecond sha256 c (now (challenges .entry)) ⌝ }
@@ -176,6 +178,7 @@ fn after_path(c: Core, roots: &[u8; 512], coefficients: &[u32; 64]) -> Core
     }
 }
 
+// Each sibling is an item of its own, so that no handler loops over a path.
 pub fn after_sibling(c: Core, roots: &[u8; 512], coefficients: &[u32; 64]) -> Core
     requires { ⌜ Sane c ⌝ }
     ensures { λ r. ⌜ r ≡ afterSibling sha256 c (now (roots .entry)) (now (coefficients .entry)) ⌝ }

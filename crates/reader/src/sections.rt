@@ -17,6 +17,7 @@ use reader_model::Core;
 use reader_model::Stage;
 use transcript::Transcript;
 
+// The wanted count comes from the parameters, never from the file.
 pub fn after_count(c: Core, want: usize, stage: Stage) -> Core
     requires { ⌜ Sane c ⌝ }
     ensures { λ r. ⌜ r ≡ afterCount c want stage ⌝ }
@@ -30,6 +31,7 @@ pub fn after_count(c: Core, want: usize, stage: Stage) -> Core
     }
 }
 
+// Whether the item's first bytes are the caller's parameters.
 fn same_parameters(item: [u8; 32], p: Params) -> bool
     ensures { λ r. ⌜ r ≡ sameBytes (take 4 item) (header p) ⌝ }
 {
@@ -62,6 +64,7 @@ fn put_root(roots: &mut [u8; 512], layer: usize, root: [u8; 32])
     }
 }
 
+// A root is absorbed before its challenge is drawn; both are kept.
 pub fn after_root(c: Core, roots: &mut [u8; 512], challenges: &mut [u32; 16]) -> Core
     requires { ⌜ Sane c ⌝ }
     ensures core { λ r. ⌜ r ≡ afterRoot sha256 c ⌝ }
@@ -90,7 +93,7 @@ pub fn after_root(c: Core, roots: &mut [u8; 512], challenges: &mut [u32; 16]) ->
     }
 }
 
-// The first count of the coefficients are absorbed.
+// The transcript after the first count of the coefficients.
 fn absorbed_final(state: [u8; 32], coefficients: [u32; 64], count: usize) -> [u8; 32]
     ensures { λ r. ⌜ r ≡ finish sha256 state (take count coefficients) ⌝ }
 {
@@ -98,6 +101,7 @@ fn absorbed_final(state: [u8; 32], coefficients: [u32; 64], count: usize) -> [u8
     after.state
 }
 
+// A final coefficient is kept; after the last one all are absorbed, and the queries can be drawn.
 pub fn after_coefficient(c: Core, coefficients: &mut [u32; 64]) -> Core
     requires { ⌜ Sane c ⌝ }
     ensures core { λ r. ⌜ r ≡ afterCoefficient sha256 c (now (coefficients .entry)) ⌝ }
@@ -148,6 +152,7 @@ pub fn at_query(c: Core, query: u8) -> Core
     next
 }
 
+// The walk of the first query begins here.
 pub fn after_query_count(c: Core) -> Core
     requires { ⌜ Sane c ⌝ }
     ensures { λ r. ⌜ r ≡ afterQueryCount sha256 c ⌝ }

@@ -8,7 +8,6 @@ use lib.ListN.{length, take}
 use lib.Seq.{sets}
 use Rattle.message.proofs.MessageLaws.{copy-more}
 use Rattle.reader.proofs.Laws.{copy-stop}
-use mathlib.Core.Path.{_≡_, refl, ap, _∙_}
 use Rattle.reader.proofs.gather.Statement.{statement}
 use Rattle.reader.proofs.gather.Tie as tie
 

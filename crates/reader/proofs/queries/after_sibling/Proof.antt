@@ -2,7 +2,7 @@
 -- Assumes nothing.
 use Rattle.reader_model.specs.Items.{afterSibling}
 use Rattle.reader.proofs.Laws.{taken, left}
-use mathlib.Core.Path.{sym, _∙_}
+use mathlib.Core.Path.{_∙_}
 use borrow.Author.Tests.{lt-ltb, le-ltb}
 use borrow.Author.Needs.{needs}
 use Rattle.reader.proofs.queries.after_sibling.Statement.{statement}

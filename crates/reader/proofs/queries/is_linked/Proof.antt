@@ -1,7 +1,6 @@
 -- `reader::queries::is_linked` meets its contract.
 -- Assumes nothing.
 use Rattle.reader_model.specs.Items.{linked}
-use mathlib.Core.Path.{_∙_}
 use borrow.Author.Needs.{needs}
 use Rattle.reader.proofs.queries.is_linked.Statement.{statement}
 use Rattle.reader.proofs.queries.is_linked.Tie as tie
