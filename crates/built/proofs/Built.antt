@@ -2,7 +2,7 @@
 -- Assumes nothing.
 use Prim.Native.Nat.{ℕ, _^_, _-_, _<_, _≤_}
 use mathlib.Core.List.{List, []}
-use mathlib.Core.Path.{_≡_, refl}
+use mathlib.Core.Path.{_≡_, refl, ap}
 use native.Mathlib.Omega.{arith}
 use lib.ListN.{length, getD}
 use Rattle.answer.specs.Table.{answered, accepted}
@@ -42,6 +42,11 @@ built-is-accepted = built-holds sha256 length-sha256 sha256-byte
 pub built-accepted : (p : Params) (context f : List ℕ) → Valid p → length f ≤ 2 ^ (p .n - p .b)
     → verdict sha256 p context (builtFile sha256 p context f) ≡ answered accepted (fileLength p)
 built-accepted p context f v short = accepted-verdict sha256 p context (builtFile sha256 p context f) v (built-is-accepted p context f v short)
+
+-- A proof built under one context is a proof under that context, whatever the context is. Nothing is claimed of it under another.
+pub built-under-its-context : (context : List ℕ) (p : Params) (f : List ℕ) → Valid p → length f ≤ 2 ^ (p .n - p .b)
+    → verdict sha256 p context (builtFile sha256 p context f) .number ≡ accepted
+built-under-its-context context p f v short = ap (λ a. a .number) (built-accepted p context f v short)
 
 -- The zero polynomial's proof is accepted.
 pub zero-accepted : (p : Params) (context : List ℕ) → Valid p

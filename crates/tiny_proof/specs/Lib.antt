@@ -1,0 +1,2 @@
+-- A tiny proof.
+pub mod Tiny

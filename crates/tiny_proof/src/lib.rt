@@ -1,0 +1,1 @@
+// A whole tiny proof, judged by the specification itself: no code.
