@@ -1,6 +1,6 @@
 -- Laws on choices by a test, and on the tests of a state, over plain variables, so that a function's answer only cites them.
 -- Assumes nothing.
-use Prim.Native.Nat.{ℕ}
+use Prim.Native.Nat.{ℕ, _+_}
 use mathlib.Core.Path.{_≡_, refl, sym, _∙_, ap, ap₂}
 use mathlib.Core.Bool.{Bool, true, false, cond, _&&_, false≢true}
 use mathlib.Core.List.{List}
@@ -10,13 +10,15 @@ use lib.Dec.{ltb, leb}
 use borrow.Author.Tests.{leb-true, ltb-true}
 use Rattle.answer.specs.Table.{answered, closed}
 use Rattle.sha256.specs.Sha256.{sha256}
+use Rattle.params.specs.Parameters.{height}
 use Rattle.reader_model.specs.declared.Stage.{Stage}
+use Rattle.reader_model.specs.declared.Stage.the-variants.{ParameterCount, Parameters, RootCount, Root, CoefficientCount, Coefficient, QueryCount, First, Second, Sibling, Tail, Stopped}
 use Rattle.reader_model.specs.declared.Core.{Core}
 use Rattle.reader_model.specs.declared.Tables.{Tables}
 use Rattle.reader_model.specs.declared.Reader.{Reader}
-use Rattle.reader_model.specs.State.{stopped, withCore}
-use Rattle.reader_model.specs.Items.{sane, dispatched, kept, advanced}
-use Rattle.reader.specs.Private.{Sane, afterItem}
+use Rattle.reader_model.specs.State.{stopped, withCore, withWalk, movedTo}
+use Rattle.reader_model.specs.Items.{sane, atHeight, climbed, afterSibling, dispatched, kept, advanced}
+use Rattle.reader.specs.Private.{Sane, afterItem, isSibling, goesOn, risen}
 
 -- A choice whose test holds, and one whose test fails.
 pub taken : {A : Type 0} {b : Bool} {x : A} (y : A) → b ≡ true → x ≡ cond b x y
@@ -74,3 +76,34 @@ advanced-not r bad e = ap (withCore r) e ∙ left _ bad
 -- A copy that stops after n elements.
 pub copy-stop : {d : List ℕ} (l s : List ℕ) (at i n : ℕ) → d ≡ sets l at (take i s) → i ≡ n → d ≡ sets l at (take n s)
 copy-stop l s at i n e q = e ∙ ap (λ (k : ℕ). sets l at (take k s)) q
+
+-- A sibling that is not the last of its path.
+sibling-stage : (stage : Stage) → isSibling stage ≡ true → stage ≡ Sibling
+sibling-stage ParameterCount e = absurd (false≢true e)
+sibling-stage Parameters e = absurd (false≢true e)
+sibling-stage RootCount e = absurd (false≢true e)
+sibling-stage Root e = absurd (false≢true e)
+sibling-stage CoefficientCount e = absurd (false≢true e)
+sibling-stage Coefficient e = absurd (false≢true e)
+sibling-stage QueryCount e = absurd (false≢true e)
+sibling-stage First e = absurd (false≢true e)
+sibling-stage Second e = absurd (false≢true e)
+sibling-stage Sibling e = refl
+sibling-stage Tail e = absurd (false≢true e)
+sibling-stage Stopped e = absurd (false≢true e)
+
+pub goes-on-sane : (c : Core) → goesOn c ≡ true → Sane c
+goes-on-sane c e = sane-bounds c (and-fst (sane c) _ e)
+
+pub advanced-risen : {x : Core} (r : Reader) → goesOn (r .core) ≡ true → x ≡ risen (r .core) → withCore r x ≡ advanced sha256 r
+unfolding afterSibling
+advanced-risen r e risen-is =
+    let c = r .core in
+    let more = and-snd (sane c) _ e in
+    let told : c .stage ≡ Sibling = sibling-stage (c .stage) (and-fst (isSibling (c .stage)) _ more) in
+    let test : ltb (c .cursor .height + 1) (height (c .params) (c .cursor .layer)) ≡ true = and-snd (isSibling (c .stage)) _ more in
+    advanced-sane r (and-fst (sane c) _ e)
+    (core-at c (r .tables) Sibling told refl
+    (risen-is
+    ∙ (ap (λ (k : Stage). movedTo (atHeight (withWalk c (climbed sha256 c)) (c .cursor .height + 1)) k) told
+    ∙ taken _ test)))

@@ -1,11 +1,17 @@
 -- Abbreviations of the private contracts.
-use Prim.Native.Nat.{ℕ, _≤_, _<_}
+use Prim.Native.Nat.{ℕ, _+_, _≤_, _<_}
+use mathlib.Core.Bool.{Bool, true, false, _&&_}
 use mathlib.Core.List.{List}
+use lib.Dec.{ltb}
 use Rattle.sha256.specs.Sha256.{sha256}
+use Rattle.params.specs.Parameters.{height}
+use Rattle.reader_model.specs.declared.Stage.{Stage}
+use Rattle.reader_model.specs.declared.Stage.the-variants.{ParameterCount, Parameters, RootCount, Root, CoefficientCount, Coefficient, QueryCount, First, Second, Sibling, Tail, Stopped}
 use Rattle.reader_model.specs.declared.Core.{Core}
 use Rattle.reader_model.specs.declared.Tables.{Tables}
 use Rattle.reader_model.specs.declared.Reader.{Reader}
-use Rattle.reader_model.specs.Items.{dispatched, kept}
+use Rattle.reader_model.specs.State.{withWalk, movedTo}
+use Rattle.reader_model.specs.Items.{sane, atHeight, climbed, dispatched, kept}
 
 -- The bounds of a sane state, as facts.
 pub record Sane (c : Core) : Type 0 where
@@ -26,3 +32,24 @@ whole c roots challenges coefficients = record { core = c; tables = tables roots
 -- The state after a whole item of a sane state.
 abbrev pub afterItem : Core → Tables → Reader
 afterItem c t = record { core = dispatched sha256 (c .stage) c t; tables = kept sha256 (c .stage) c t }
+
+abbrev pub isSibling : Stage → Bool
+isSibling ParameterCount = false
+isSibling Parameters = false
+isSibling RootCount = false
+isSibling Root = false
+isSibling CoefficientCount = false
+isSibling Coefficient = false
+isSibling QueryCount = false
+isSibling First = false
+isSibling Second = false
+isSibling Sibling = true
+isSibling Tail = false
+isSibling Stopped = false
+
+-- Whether the item of a sane state is a sibling and not the last of its path, and the state after it.
+abbrev pub goesOn : Core → Bool
+goesOn c = sane c && (isSibling (c .stage) && ltb (c .cursor .height + 1) (height (c .params) (c .cursor .layer)))
+
+abbrev pub risen : Core → Core
+risen c = movedTo (atHeight (withWalk c (climbed sha256 c)) (c .cursor .height + 1)) (c .stage)

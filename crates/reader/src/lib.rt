@@ -113,7 +113,11 @@ fn feed(state: Reader, bytes: &[u8]) -> Reader
         c.fill = fill + n;
         i += n;
         if n == room {
-            c = advance(c, &mut roots, &mut challenges, &mut coefficients);
+            if queries::goes_on(c) {
+                c = queries::up(c);
+            } else {
+                c = advance(c, &mut roots, &mut challenges, &mut coefficients);
+            }
         }
     }
     let after = Tables {

@@ -1,12 +1,15 @@
 // What the items of the queries do: the two values of an opening, and its siblings up to the root.
 ghost use mathlib.Core.Path.{_≡_};
-ghost use Prim.Native.Nat.{_+_, _*_, _<_};
+ghost use Prim.Native.Nat.{_+_, _*_, _<_, _%_};
 ghost use lib.ListN.{length, take, drop};
 ghost use Rattle.sha256.specs.Sha256.{sha256};
+ghost use Rattle.merkle.specs.Merkle.{join};
 ghost use Rattle.fri.specs.Judge.{sameBytes, named};
 ghost use Rattle.reader_model.specs.Items.{afterFirst, linked, atLeaf, afterSecond, climbed, finished, nextQuery, nextLayer, afterPath, afterSibling};
-ghost use Rattle.reader.specs.Private.{Sane};
+ghost use Rattle.reader.specs.Private.{Sane, goesOn, risen};
 use crate::sections::at_query;
+use crate::state::is_sane;
+use crate::state::is_sibling;
 use crate::state::moved;
 use crate::state::refuse;
 use field::Felt;
@@ -88,6 +91,17 @@ pub fn after_second(c: Core, challenges: &[u32; 16]) -> Core
     }
 }
 
+// The node above, of the walk's node and the sibling. Each of the two orders is a call of its own: the choice moves no bytes.
+fn node_above(position: u32, node: [u8; 32], sibling: [u8; 32]) -> [u8; 32]
+    ensures { λ r. ⌜ r ≡ join sha256 (position % 2) node sibling ⌝ }
+{
+    if position % 2 == 0 {
+        merkle::node(node, sibling)
+    } else {
+        merkle::node(sibling, node)
+    }
+}
+
 // One node up.
 fn climb(c: Core) -> Walk
     ensures { λ r. ⌜ r ≡ climbed sha256 c ⌝ }
@@ -96,7 +110,7 @@ fn climb(c: Core) -> Walk
     let node = walk.node;
     let position = walk.position;
     let sibling = c.item;
-    let above = merkle::parent(node, position as usize, sibling);
+    let above = node_above(position, node, sibling);
     walk.position = position / 2;
     walk.node = above;
     walk
@@ -195,4 +209,33 @@ pub fn after_sibling(c: Core, roots: &[u8; 512], coefficients: &[u32; 64]) -> Co
     } else {
         after_path(next, roots, coefficients)
     }
+}
+
+// Whether the item of a sane state is a sibling, and not the last one of its path.
+pub fn goes_on(c: Core) -> bool
+    ensures { λ r. ⌜ r ≡ goesOn c ⌝ }
+{
+    let stage = c.stage;
+    let params = c.params;
+    let height = params::height(params, c.cursor.layer);
+    let above = c.cursor.height as usize + 1;
+    is_sane(c) & (is_sibling(stage) & (above < height))
+}
+
+// A sibling that is not the last of its path. Most items are, so this has its own way: only what changes is stored.
+pub fn up(c: Core) -> Core
+    requires { ⌜ Sane c ⌝ }
+    ensures { λ r. ⌜ r ≡ risen c ⌝ }
+{
+    let walk = climb(c);
+    let above = c.cursor.height + 1;
+    let start = c.cursor.start + c.fill as u32;
+    let mut next = c;
+    next.walk = walk;
+    next.cursor.height = above;
+    next.cursor.start = start;
+    next.fill = 0;
+    next.answer.number = answer::OPEN;
+    next.answer.place = 0;
+    next
 }

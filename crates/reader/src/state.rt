@@ -5,6 +5,7 @@ ghost use Rattle.answer.specs.Table.{answered};
 ghost use Rattle.reader_model.specs.State.{itemLength, noCursor, noWalk, noTables, stopped, closedState, movedTo};
 ghost use Rattle.reader_model.specs.Items.{sane, refused};
 ghost use Rattle.reader_model.specs.Model.{isStopped, isTail, answerOf};
+ghost use Rattle.reader.specs.Private.{isSibling};
 use answer::Answer;
 use params::Params;
 use reader_model::Core;
@@ -50,6 +51,25 @@ pub fn is_stopped(stage: Stage) -> bool
         Stage::Sibling => false,
         Stage::Tail => false,
         Stage::Stopped => true,
+    }
+}
+
+pub fn is_sibling(stage: Stage) -> bool
+    ensures { λ r. ⌜ r ≡ isSibling stage ⌝ }
+{
+    match stage {
+        Stage::ParameterCount => false,
+        Stage::Parameters => false,
+        Stage::RootCount => false,
+        Stage::Root => false,
+        Stage::CoefficientCount => false,
+        Stage::Coefficient => false,
+        Stage::QueryCount => false,
+        Stage::First => false,
+        Stage::Second => false,
+        Stage::Sibling => true,
+        Stage::Tail => false,
+        Stage::Stopped => false,
     }
 }
 
@@ -165,9 +185,7 @@ pub fn moved(c: Core, stage: Stage) -> Core
     let params = c.params;
     let walk = c.walk;
     let transcript = c.transcript;
-    let mut cursor = c.cursor;
-    let start = cursor.start + c.fill as u32;
-    cursor.start = start;
+    let start = c.cursor.start + c.fill as u32;
     Core {
         stage: stage,
         answer: Answer {
@@ -177,7 +195,13 @@ pub fn moved(c: Core, stage: Stage) -> Core
         fill: 0,
         item: item,
         params: params,
-        cursor: cursor,
+        cursor: Cursor {
+            start: start,
+            coefficient: c.cursor.coefficient,
+            query: c.cursor.query,
+            layer: c.cursor.layer,
+            height: c.cursor.height,
+        },
         walk: walk,
         transcript: transcript,
     }

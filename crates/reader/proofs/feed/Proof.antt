@@ -1,7 +1,7 @@
 -- `reader::feed` meets its contract: at the loop's head the parts put together are the state after the first i bytes.
 -- Assumes nothing.
 use Prim.Native.Nat.{_≤_, _<_, _-_, _+_}
-use mathlib.Core.Path.{_≡_, refl}
+use mathlib.Core.Path.{_≡_, refl, sym, _∙_}
 use native.Mathlib.Omega.{arith}
 use borrow.Author.Needs.{needs}
 use lib.ListN.{length, take, drop, length-drop}
@@ -10,6 +10,7 @@ use Rattle.sha256.specs.Sha256.{sha256}
 use Rattle.reader_model.specs.State.{itemLength}
 use Rattle.reader_model.specs.Model.{fed}
 use Rattle.reader.specs.Private.{whole}
+use Rattle.reader.proofs.Laws.{goes-on-sane, advanced-risen}
 use Rattle.reader.proofs.Fold.{item-fits, fed-stopped, fed-all, fed-more, fed-last}
 use Rattle.reader.proofs.feed.Statement.{statement}
 use Rattle.reader.proofs.feed.Tie as tie
@@ -59,27 +60,46 @@ add-c c = search needs
 add-i : tie.Need-add-i Inv-loop μ-loop
 add-i c = search needs
 
-advance-requires : tie.Need-advance-requires Inv-loop μ-loop
-advance-requires c κs = search needs
+goes-on-requires : tie.Need-goes-on-requires Inv-loop μ-loop
+goes-on-requires c κs = search needs
+
+up-requires : tie.Need-up-requires Inv-loop μ-loop
+up-requires c κs = goes-on-sane _ (sym (c .before .goes-on .ensures) ∙ c .if3 .taken)
 
 loop-less : tie.Need-loop-less Inv-loop μ-loop
 loop-less c = search needs
 
 loop-again : tie.Need-loop-again Inv-loop μ-loop
 loop-again c =
-    let state = c .before .before .before .before .before .before .before .before .before .before .before .before .before .loop .c in
-    let i = c .before .before .before .before .before .before .before .before .before .before .before .before .before .loop .i in
-    let n = c .before .before .before .before .before .before .before .before .before .least .result in
-    let inside : i + n ≤ length (c .before .before .before .before .before .before .before .before .before .before .before .before .before .before .before .before .before .before .before .before .args .bytes .now) = omega (arith, c .before .before .before .before .before .before .before .before .before .least .ensures) in
-    let some : 0 < n = omega (arith, c .before .before .before .before .before .before .before .before .before .least .ensures) in
-    let full : state .fill + n ≡ itemLength (state .stage) = omega (arith, c .before .before .before .before .before .before .before .before .before .before .before .item-length .ensures) in
-    (inside, fed-last sha256 (c .before .before .before .before .before .before .before .before .before .before .before .before .before .before .before .before .before .before .before .before .args .state) _ i (c .before .before .before .before .before .before .before .before .before .before .before .before .before .loop .inv .1) n _ (c .before .before .before .before .before .gather .ensures) inside some full (c .advance .ensures))
+    let state = c .before .before .before .before .before .before .before .before .before .before .before .before .loop .c in
+    let i = c .before .before .before .before .before .before .before .before .before .before .before .before .loop .i in
+    let n = c .before .before .before .before .before .before .before .before .least .result in
+    let inside : i + n ≤ length (c .before .before .before .before .before .before .before .before .before .before .before .before .before .before .before .before .before .before .before .args .bytes .now) = omega (arith, c .before .before .before .before .before .before .before .before .least .ensures) in
+    let some : 0 < n = omega (arith, c .before .before .before .before .before .before .before .before .least .ensures) in
+    let full : state .fill + n ≡ itemLength (state .stage) = omega (arith, c .before .before .before .before .before .before .before .before .before .before .item-length .ensures) in
+    (inside, fed-last sha256 (c .before .before .before .before .before .before .before .before .before .before .before .before .before .before .before .before .before .before .before .args .state) _ i (c .before .before .before .before .before .before .before .before .before .before .before .before .loop .inv .1) n _ (c .before .before .before .before .gather .ensures) inside some full (advanced-risen _ (sym (c .before .before .goes-on .ensures) ∙ c .before .if3 .taken) (c .up .ensures)))
+
+advance-requires : tie.Need-advance-requires Inv-loop μ-loop
+advance-requires c κs = search needs
 
 loop-less-2 : tie.Need-loop-less-2 Inv-loop μ-loop
 loop-less-2 c = search needs
 
 loop-again-2 : tie.Need-loop-again-2 Inv-loop μ-loop
 loop-again-2 c =
+    let state = c .before .before .before .before .before .before .before .before .before .before .before .before .before .before .before .loop .c in
+    let i = c .before .before .before .before .before .before .before .before .before .before .before .before .before .before .before .loop .i in
+    let n = c .before .before .before .before .before .before .before .before .before .before .before .least .result in
+    let inside : i + n ≤ length (c .before .before .before .before .before .before .before .before .before .before .before .before .before .before .before .before .before .before .before .before .before .before .args .bytes .now) = omega (arith, c .before .before .before .before .before .before .before .before .before .before .before .least .ensures) in
+    let some : 0 < n = omega (arith, c .before .before .before .before .before .before .before .before .before .before .before .least .ensures) in
+    let full : state .fill + n ≡ itemLength (state .stage) = omega (arith, c .before .before .before .before .before .before .before .before .before .before .before .before .before .item-length .ensures) in
+    (inside, fed-last sha256 (c .before .before .before .before .before .before .before .before .before .before .before .before .before .before .before .before .before .before .before .before .before .before .args .state) _ i (c .before .before .before .before .before .before .before .before .before .before .before .before .before .before .before .loop .inv .1) n _ (c .before .before .before .before .before .before .before .gather .ensures) inside some full (c .advance .ensures))
+
+loop-less-3 : tie.Need-loop-less-3 Inv-loop μ-loop
+loop-less-3 c = search needs
+
+loop-again-3 : tie.Need-loop-again-3 Inv-loop μ-loop
+loop-again-3 c =
     let state = c .before .before .before .before .before .before .before .before .before .loop .c in
     let i = c .before .before .before .before .before .before .before .before .before .loop .i in
     let n = c .before .before .before .before .before .least .result in
@@ -110,10 +130,14 @@ feed-spec =
     gather-requires
     add-c
     add-i
-    advance-requires
+    goes-on-requires
+    up-requires
     loop-less
     loop-again
+    advance-requires
     loop-less-2
     loop-again-2
+    loop-less-3
+    loop-again-3
     returns
     returns-2)

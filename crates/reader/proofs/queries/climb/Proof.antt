@@ -5,15 +5,12 @@ use borrow.Author.Needs.{needs}
 use Rattle.reader.proofs.queries.climb.Statement.{statement}
 use Rattle.reader.proofs.queries.climb.Tie as tie
 
-cast-parent : tie.Need-cast-parent
-cast-parent c = search needs
-
-parent-requires : tie.Need-parent-requires
-parent-requires c κs = search needs
+node-above-requires : tie.Need-node-above-requires
+node-above-requires c κs = search needs
 
 returns : tie.Need-returns
 unfolding climbed
-returns c = simp (c .parent .ensures)
+returns c = simp (c .node-above .ensures)
 
 pub climb-spec : {M : Type 1} → statement M
-climb-spec = tie.close (tie.spec cast-parent parent-requires returns)
+climb-spec = tie.close (tie.spec node-above-requires returns)
