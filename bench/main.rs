@@ -245,19 +245,48 @@ fn folds(table: &mut Table, rng: &mut Rng) {
     );
 }
 
-/// The verdict on a built proof. The ordinary verifier has the whole slice; ours is
-/// fed in pieces of the given size.
-fn verdicts(table: &mut Table, rng: &mut Rng) {
+/// The ordinary verifier has the whole slice; ours is fed in pieces of `size` bytes.
+fn verdict_batch(params: Params, context: Digest, file: Vec<u8>, size: usize) -> Batch {
     type Call = unsafe extern "C" fn(Params, &Digest, *const u8, usize, usize) -> Answer;
+    let sides = Sides::<Call> {
+        ours: ours::test_verdict_in_pieces,
+        peer: peers::verdict,
+    };
+    Batch::each(
+        sides,
+        vec![file],
+        Answer::DONE,
+        move |call, file, answer| {
+            // The pointer and the length are those of one slice.
+            *answer = unsafe { call(params, &context, file.as_ptr(), file.len(), size) };
+        },
+    )
+}
+
+/// The nodes that a verdict hashes, and nothing else, as one call.
+fn nodes_batch(nodes: usize) -> Batch {
+    type Call = extern "C" fn(&Digest, &Digest, &mut Digest);
+    let sides = Sides::<Call> {
+        ours: ours::test_node,
+        peer: peers::node,
+    };
+    Batch::new(1, sides, NO_DIGEST, move |call, digest| {
+        let mut below = NO_DIGEST;
+        for _ in 0..nodes {
+            call(&below, &NO_DIGEST, digest);
+            below = *digest;
+        }
+    })
+}
+
+/// The verdict on a built proof, and what it costs over the nodes that it hashes.
+fn verdicts(table: &mut Table, rng: &mut Rng) {
     const WHOLE: usize = usize::MAX;
-    let rows: [(u8, u8, u8, u8, &[(usize, &str)]); 3] = [
-        (10, 2, 4, 16, &[(WHOLE, "in one piece")]),
-        (16, 4, 8, 32, &[(WHOLE, "in one piece")]),
+    let rows: [([u8; 4], &[(usize, &str)]); 3] = [
+        ([10, 2, 4, 16], &[(WHOLE, "in one piece")]),
+        ([16, 4, 8, 32], &[(WHOLE, "in one piece")]),
         (
-            20,
-            2,
-            12,
-            64,
+            [20, 2, 12, 64],
             &[
                 (WHOLE, "in one piece"),
                 (4096, "in pieces of 4,096 bytes"),
@@ -266,27 +295,22 @@ fn verdicts(table: &mut Table, rng: &mut Rng) {
             ],
         ),
     ];
-    for (n, b, k, q, cuts) in rows {
+    for ([n, b, k, q], cuts) in rows {
         let params = Params::new(n, b, k, q);
         let context = rng.digest();
         // Most of a large proof's time is building it, so its polynomial is short.
         let file = proof::build(params, &context, &rng.elements(3));
+        let job = format!("verdict {n},{b},{k},{q}");
         for &(size, cut) in cuts {
-            let sides = Sides::<Call> {
-                ours: ours::test_verdict_in_pieces,
-                peer: peers::verdict,
-            };
-            let name = format!("verdict {n},{b},{k},{q} ({} bytes) {cut}", file.len());
-            let batch = Batch::each(
-                sides,
-                vec![file.clone()],
-                Answer::DONE,
-                move |call, file, answer| {
-                    // The pointer and the length are those of one slice.
-                    *answer = unsafe { call(params, &context, file.as_ptr(), file.len(), size) };
-                },
-            );
-            table.row(name, batch);
+            let name = format!("{job} ({} bytes) {cut}", file.len());
+            table.row(name, verdict_batch(params, context, file.clone(), size));
         }
+        let heights: usize = (0..k).map(|layer| params.height(layer)).sum();
+        let nodes = q as usize * heights;
+        table.overhead(
+            format!("{job} over its {nodes} nodes alone"),
+            verdict_batch(params, context, file, WHOLE),
+            nodes_batch(nodes),
+        );
     }
 }
