@@ -16,7 +16,7 @@ use Rattle.fold.proofs.PolyLaws.{below-at}
 use Rattle.fold.proofs.FoldCheck.{eval-lt}
 use Rattle.fri.specs.Encoding.{IsDigest, IsOpening, HasLayout, openingAt, noOpening}
 use Rattle.built.specs.Built.{leafOf, leaves, commit, builtRoot, builtLeaf, layerAt, openingOf, build}
-use Rattle.built.proofs.Tabulate.{tabulate-length, tabulate-at}
+use Rattle.fri.proofs.Tabulate.{tabulate-length, tabulate-at}
 use Rattle.built.proofs.Layers.{leaves-length, layer-length, layer-below}
 
 -- Query i opens its leaf in layer j.

@@ -14,8 +14,9 @@ use Rattle.transcript.specs.Transcript.{start, absorb, absorbed}
 use Rattle.transcript.proofs.TranscriptLaws.{absorbed-snoc}
 use Rattle.fold.specs.Poly.{Below}
 use Rattle.fold.proofs.FoldCheck.{fold-length, fold-below}
-use Rattle.built.specs.Built.{tabulate, padded, leaves, nextLayer, layerAt, builtRoot}
-use Rattle.built.proofs.Tabulate.{tabulate-length, tabulate-at}
+use Rattle.built.specs.Built.{padded, leaves, nextLayer, layerAt, builtRoot}
+use Rattle.fri.specs.Encoding.{tabulate}
+use Rattle.fri.proofs.Tabulate.{tabulate-length, tabulate-at}
 
 padded-length : (size : ℕ) (f : List ℕ) → length f ≤ size → length (padded size f) ≡ size
 unfolding padded

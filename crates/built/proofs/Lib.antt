@@ -1,5 +1,4 @@
 -- The proof built from a polynomial is accepted.
-pub mod Tabulate
 pub mod Layers
 pub mod BuiltLayout
 pub mod Holds

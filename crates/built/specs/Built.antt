@@ -10,12 +10,7 @@ use Rattle.domain.specs.Domain.{half, point}
 use Rattle.merkle.specs.Merkle.{rootOf, path, leaf}
 use Rattle.transcript.specs.Transcript.{start, absorb, challenge, finish, drawn}
 use Rattle.fold.specs.Poly.{eval, fold}
-use Rattle.fri.specs.Encoding.{Opening, Proof, encode}
-
--- The values of g at 0, …, n − 1.
-unfoldable pub tabulate : {A : Type 0} → ℕ → (ℕ → A) → List A
-tabulate zero g = []
-tabulate (suc n) g = g 0 ∷ tabulate n (λ i. g (suc i))
+use Rattle.fri.specs.Encoding.{Opening, Proof, tabulate, encode}
 
 -- The coefficients, with the missing ones, which are 0.
 unfoldable pub padded : ℕ → List ℕ → List ℕ

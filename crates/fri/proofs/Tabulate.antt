@@ -3,7 +3,7 @@ use Prim.Native.Nat.{ℕ, zero, suc, _<_}
 use mathlib.Core.Path.{_≡_, refl, ap}
 use native.Mathlib.Omega.{arith}
 use lib.ListN.{length, getD}
-use Rattle.built.specs.Built.{tabulate}
+use Rattle.fri.specs.Encoding.{tabulate}
 
 module _ {A : Type 0} where
   pub tabulate-length : (n : ℕ) (g : ℕ → A) → length (tabulate n g) ≡ n

@@ -1,0 +1,1 @@
+-- The judgement refuses exactly by the table.

@@ -1,0 +1,2 @@
+-- The table of refusals, row by row.
+pub mod Rules

@@ -1,0 +1,98 @@
+-- The table of refusals, row by row (document 01, "When the reader says no"): each number with its rule and its place, by offsets in the bytes.
+-- Nothing here goes through the file in order: a rule looks at the bytes where the layout has them, whatever stands before.
+use Prim.Native.Nat.{ℕ, suc, _+_, _*_, _≤_, _<_}
+use mathlib.Core.List.{List}
+use mathlib.Core.Path.{_≡_}
+use lib.ListN.{length, getD}
+use Rattle.answer.specs.Table.{open-so-far, accepted, parameters-not-valid, count-differs, parameters-differ, not-below-modulus, not-the-folded-value, path-misses-root, misses-final-polynomial, too-few-bytes, byte-after-the-end}
+use Rattle.field.specs.Modular.{p as modulus}
+use Rattle.params.specs.declared.Params.{Params}
+use Rattle.params.specs.Parameters.{Valid, header, finalCount, height, openingLength, queriesOffset, openingOffset, fileLength}
+use Rattle.message.specs.Bytes.{num, part}
+use Rattle.message.specs.Message.{Digest}
+use Rattle.domain.specs.Domain.{point}
+use Rattle.merkle.specs.Merkle.{climb}
+use Rattle.fold.specs.Poly.{eval}
+use Rattle.fri.specs.Encoding.{Opening, Proof, tabulate, rootAt, openingAt}
+use Rattle.fri.specs.Accepted.{leafAt, openedLeaf, FoldsTo, nextValue}
+
+-- Where coefficient i stands.
+unfoldable pub coefficientOffset : Params → ℕ → ℕ
+coefficientOffset p i = 10 + 32 * p .k + 4 * i
+
+-- Where the opening of query i in layer j ends.
+unfoldable pub openingEnd : Params → ℕ → ℕ → ℕ
+openingEnd p i j = openingOffset p i j + openingLength p j
+
+-- The proof that stands in a file: each part is read where the layout has it, tested or not.
+unfoldable pub openingIn : Params → List ℕ → ℕ → ℕ → Opening
+openingIn p file i j =
+    record {
+      first = num (part (openingOffset p i j) 4 file);
+      second = num (part (openingOffset p i j + 4) 4 file);
+      siblings = tabulate (height p j) (λ h. part (openingOffset p i j + 8 + 32 * h) 32 file);
+    }
+
+unfoldable pub proofIn : Params → List ℕ → Proof
+proofIn p file =
+    record {
+      roots = tabulate (p .k) (λ j. part (8 + 32 * j) 32 file);
+      final = tabulate (finalCount p) (λ i. num (part (coefficientOffset p i) 4 file));
+      queries = tabulate (p .q) (λ i. tabulate (p .k) (openingIn p file i));
+    }
+
+module _ (hash : List ℕ → Digest) (p : Params) (context file : List ℕ) where
+  abbrev proof : Proof
+  proof = proofIn p file
+
+  -- Rule c d: the rule of number c holds at place d.
+  pub data Rule : ℕ → ℕ → Type 0 where
+    -- 20: a section's count differs; at the count's 2nd byte
+    count-1 : ¬ (num (part 0 2 file) ≡ 4) → Rule count-differs 2
+    count-2 : ¬ (num (part 6 2 file) ≡ p .k) → Rule count-differs 8
+    count-3 : ¬ (num (part (8 + 32 * p .k) 2 file) ≡ finalCount p) → Rule count-differs (10 + 32 * p .k)
+    count-4 : ¬ (num (part (10 + 32 * p .k + 4 * finalCount p) 2 file) ≡ p .q) → Rule count-differs (queriesOffset p)
+    -- 21: section 1 differs from the caller's parameters; at its last byte
+    section-1 : ¬ (part 2 4 file ≡ header p) → Rule parameters-differ 6
+    -- 22: a number not below p; at its 4th byte
+    coefficient : (i : ℕ) → i < finalCount p → ¬ (getD (proof .final) i 0 < modulus) → Rule not-below-modulus (coefficientOffset p i + 4)
+    first-value : (i j : ℕ) → i < p .q → j < p .k → ¬ (openingAt proof i j .first < modulus) → Rule not-below-modulus (openingOffset p i j + 4)
+    second-value : (i j : ℕ) → i < p .q → j < p .k → ¬ (openingAt proof i j .second < modulus) → Rule not-below-modulus (openingOffset p i j + 8)
+    -- 24: the opened value of layer j + 1 is not the one folded from layer j; at the second value's last byte
+    folded-value : (i j : ℕ) → i < p .q → suc j < p .k → ¬ FoldsTo hash p context proof i j (nextValue hash p context proof i j)
+        → Rule not-the-folded-value (openingOffset p i (suc j) + 8)
+    -- 23: the path misses the root; at the last sibling's last byte
+    path : (i j : ℕ) → i < p .q → j < p .k
+        → ¬ (climb hash (openedLeaf hash p context proof i j) (leafAt hash p context proof i j) (openingAt proof i j .siblings) ≡ rootAt proof j)
+        → Rule path-misses-root (openingEnd p i j)
+    -- 25: the chain misses the final polynomial; at the last sibling's last byte too
+    final-value : (i j : ℕ) → i < p .q → suc j ≡ p .k
+        → ¬ FoldsTo hash p context proof i j (eval (proof .final) (point (p .n) (suc j) (leafAt hash p context proof i j)))
+        → Rule misses-final-polynomial (openingEnd p i j)
+    -- 27: a byte after the file's L bytes; at L + 1
+    after-the-end : Rule byte-after-the-end (fileLength p + 1)
+
+  -- The bytes are refused with number c at place d: that byte is there, c's rule holds at it, no rule holds at an earlier byte, and none that goes
+  -- before c at the same byte.
+  pub record Refused (c d : ℕ) : Type 0 where
+    pub there : d ≤ length file
+    pub rule : Rule c d
+    pub earliest : (c′ d′ : ℕ) → d′ < d → ¬ Rule c′ d′
+    pub number-first : c ≡ not-the-folded-value → ¬ Rule not-below-modulus d
+    pub path-first : c ≡ misses-final-polynomial → ¬ Rule path-misses-root d
+
+  -- No rule holds at any of the bytes.
+  unfoldable pub NoFault : Type 0
+  NoFault = (c d : ℕ) → d ≤ length file → ¬ Rule c d
+
+  -- The rows of a piece's answer, where the file is all bytes joined so far.
+  pub data PieceRow : ℕ → ℕ → Type 0 where
+    by-rule : {c d : ℕ} → Refused c d → PieceRow c d
+    so-far : NoFault → PieceRow open-so-far (length file)
+
+  -- The rows of a whole file's verdict.
+  pub data VerdictRow : ℕ → ℕ → Type 0 where
+    not-valid : ¬ Valid p → VerdictRow parameters-not-valid 0
+    by-rule : {c d : ℕ} → Valid p → Refused c d → VerdictRow c d
+    whole : Valid p → NoFault → length file ≡ fileLength p → VerdictRow accepted (fileLength p)
+    too-few : Valid p → NoFault → length file < fileLength p → VerdictRow too-few-bytes (length file)
