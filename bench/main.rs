@@ -1,6 +1,7 @@
 //! The proved calls beside ordinary Rust, in time.
 
 mod ours;
+mod plot;
 mod table;
 
 use peers::answer::Answer;
@@ -26,12 +27,19 @@ fn main() {
     folds(&mut table, &mut rng);
     verdicts(&mut table, &mut rng);
 
-    let wanted: Vec<String> = std::env::args().skip(1).collect();
+    let mut wanted: Vec<String> = std::env::args().skip(1).collect();
+    let plot = (wanted.first().map(String::as_str) == Some("--plot")).then(|| {
+        assert!(wanted.len() > 1, "--plot FILE");
+        wanted.drain(..2).next_back().unwrap()
+    });
     if !wanted.is_empty() {
         table.keep(&wanted);
     }
     table.time();
     table.print();
+    if let Some(file) = plot {
+        std::fs::write(&file, plot::svg(&table.growth())).expect("the plot is written");
+    }
 }
 
 const NO_DIGEST: Digest = [0; 32];
@@ -263,54 +271,63 @@ fn verdict_batch(params: Params, context: Digest, file: Vec<u8>, size: usize) ->
     )
 }
 
-/// The nodes that a verdict hashes, and nothing else, as one call.
-fn nodes_batch(nodes: usize) -> Batch {
-    type Call = extern "C" fn(&Digest, &Digest, &mut Digest);
-    let sides = Sides::<Call> {
-        ours: ours::test_node,
-        peer: peers::node,
+/// What a verdict hashes, and nothing else, as one call: the nodes of its paths,
+/// its leaves, and the draws of its queries, which take as long as a challenge.
+fn hashing_batch(params: Params) -> Batch {
+    type Node = extern "C" fn(&Digest, &Digest, &mut Digest);
+    type Leaf = extern "C" fn(u32, u32, &mut Digest);
+    type Draw = extern "C" fn(&Digest) -> u32;
+    let sides = Sides::<(Node, Leaf, Draw)> {
+        ours: (ours::test_node, ours::test_leaf, ours::test_challenge),
+        peer: (peers::node, peers::leaf, peers::challenge),
     };
-    Batch::new(1, sides, NO_DIGEST, move |call, digest| {
+    let heights: Vec<usize> = (0..params.k).map(|layer| params.height(layer)).collect();
+    Batch::new(1, sides, NO_DIGEST, move |(node, leaf, draw), digest| {
         let mut below = NO_DIGEST;
-        for _ in 0..nodes {
-            call(&below, &NO_DIGEST, digest);
-            below = *digest;
+        for query in 0..params.q {
+            below[0] ^= draw(&below) as u8;
+            for &height in &heights {
+                leaf(query.into(), height as u32, digest);
+                for _ in 0..height {
+                    below = *digest;
+                    node(&below, &NO_DIGEST, digest);
+                }
+            }
         }
     })
 }
 
-/// The verdict on a built proof, and what it costs over the nodes that it hashes.
+/// The verdict on built proofs of several sizes, in one piece and in smaller ones,
+/// and what the largest takes beside its hashing.
 fn verdicts(table: &mut Table, rng: &mut Rng) {
     const WHOLE: usize = usize::MAX;
-    let rows: [([u8; 4], &[(usize, &str)]); 3] = [
-        ([10, 2, 4, 16], &[(WHOLE, "in one piece")]),
-        ([16, 4, 8, 32], &[(WHOLE, "in one piece")]),
-        (
-            [20, 2, 12, 64],
-            &[
-                (WHOLE, "in one piece"),
-                (4096, "in pieces of 4,096 bytes"),
-                (64, "in pieces of 64 bytes"),
-                (1, "in pieces of one byte"),
-            ],
-        ),
+    let sizes = [
+        [6, 2, 2, 8],
+        [10, 2, 4, 16],
+        [12, 2, 6, 64],
+        [16, 4, 8, 32],
+        [16, 2, 10, 64],
+        [20, 2, 12, 16],
+        [20, 2, 12, 64],
     ];
-    for ([n, b, k, q], cuts) in rows {
+    let mut largest = None;
+    for [n, b, k, q] in sizes {
         let params = Params::new(n, b, k, q);
         let context = rng.digest();
         // Most of a large proof's time is building it, so its polynomial is short.
         let file = proof::build(params, &context, &rng.elements(3));
-        let job = format!("verdict {n},{b},{k},{q}");
-        for &(size, cut) in cuts {
-            let name = format!("{job} ({} bytes) {cut}", file.len());
-            table.row(name, verdict_batch(params, context, file.clone(), size));
-        }
-        let heights: usize = (0..k).map(|layer| params.height(layer)).sum();
-        let nodes = q as usize * heights;
-        table.overhead(
-            format!("{job} over its {nodes} nodes alone"),
-            verdict_batch(params, context, file, WHOLE),
-            nodes_batch(nodes),
-        );
+        let name = format!("verdict {n},{b},{k},{q} ({} bytes) in one piece", file.len());
+        let batch = verdict_batch(params, context, file.clone(), WHOLE);
+        table.growing(name, file.len(), batch);
+        largest = Some((params, context, file));
     }
+    let (params, context, file) = largest.expect("there are sizes");
+    for (size, cut) in [(4096, "4,096 bytes"), (64, "64 bytes"), (1, "one byte")] {
+        let batch = verdict_batch(params, context, file.clone(), size);
+        table.row(format!("the last, in pieces of {cut}"), batch);
+    }
+    let verdict = || verdict_batch(params, context, file.clone(), WHOLE);
+    let hashing = || hashing_batch(params);
+    table.overhead("the last, over its hashing alone", verdict(), hashing());
+    table.rest("the last, a byte read, without its hashing", file.len(), verdict(), hashing());
 }

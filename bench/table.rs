@@ -91,15 +91,24 @@ struct Timed {
     shortest: Duration,
 }
 
+/// What a row says of its batches: of one batch the two times, of an outer and an
+/// inner batch how much longer the outer takes, in percent or for each byte.
+enum Kind {
+    Times,
+    Over,
+    Rest { bytes: usize },
+}
+
 struct Row {
     name: String,
+    kind: Kind,
     batches: Vec<Batch>,
     timed: Vec<Timed>,
 }
 
 impl Row {
     /// Two programs that differ are not worth timing.
-    fn new(name: String, batches: Vec<Batch>) -> Row {
+    fn new(name: String, kind: Kind, batches: Vec<Batch>) -> Row {
         if let Some(difference) = batches.iter().find_map(|batch| batch.difference.as_ref()) {
             eprintln!("{name}: the two sides differ\n{difference}");
             exit(1);
@@ -114,6 +123,7 @@ impl Row {
             .collect();
         Row {
             name,
+            kind,
             batches,
             timed,
         }
@@ -150,17 +160,44 @@ impl Row {
 #[derive(Default)]
 pub struct Table {
     rows: Vec<Row>,
+    /// The rows of the plot, by name, with the sizes of their files.
+    growth: Vec<(String, usize)>,
 }
 
 impl Table {
     pub fn row(&mut self, name: impl Into<String>, batch: Batch) {
-        self.rows.push(Row::new(name.into(), vec![batch]));
+        self.push(name.into(), Kind::Times, vec![batch]);
+    }
+
+    /// A row that is a point of the plot too: the verdict on a file of that size.
+    pub fn growing(&mut self, name: impl Into<String>, bytes: usize, batch: Batch) {
+        let name = name.into();
+        self.growth.push((name.clone(), bytes));
+        self.row(name, batch);
     }
 
     /// A row of how much longer a call takes than another that it contains, on
     /// either side.
     pub fn overhead(&mut self, name: impl Into<String>, outer: Batch, inner: Batch) {
-        self.rows.push(Row::new(name.into(), vec![outer, inner]));
+        self.push(name.into(), Kind::Over, vec![outer, inner]);
+    }
+
+    /// A row of what a call takes for each byte, less another that it contains.
+    pub fn rest(&mut self, name: impl Into<String>, bytes: usize, outer: Batch, inner: Batch) {
+        self.push(name.into(), Kind::Rest { bytes }, vec![outer, inner]);
+    }
+
+    fn push(&mut self, name: String, kind: Kind, batches: Vec<Batch>) {
+        self.rows.push(Row::new(name, kind, batches));
+    }
+
+    /// The points of the plot that were timed: size, our time, the peer's.
+    pub fn growth(&self) -> Vec<(usize, [f64; 2])> {
+        let point = |(name, bytes): &(String, usize)| {
+            let row = self.rows.iter().find(|row| row.name == *name)?;
+            Some((*bytes, row.times(0)))
+        };
+        self.growth.iter().filter_map(point).collect()
     }
 
     /// Leaves only the rows whose names contain one of the parts.
@@ -189,16 +226,26 @@ impl Table {
             "", "ours ns", "Rust ns", "ratio"
         );
         for row in &self.rows {
-            let [ours, peer] = row.times(0);
             let name = &row.name;
-            if row.batches.len() == 1 {
-                let ratio = peer / ours;
-                println!("{name:width$} {ours:>11.2} {peer:>11.2} {ratio:>8.3}");
-            } else {
-                let [our_inner, peer_inner] = row.times(1);
-                let ours = percent_over(ours, our_inner);
-                let peer = percent_over(peer, peer_inner);
-                println!("{name:width$} {ours:>+9.1} % {peer:>+9.1} % {:>8}", "-");
+            let [ours, peer] = row.times(0);
+            match row.kind {
+                Kind::Times => {
+                    let ratio = peer / ours;
+                    println!("{name:width$} {ours:>11.2} {peer:>11.2} {ratio:>8.3}");
+                }
+                Kind::Over => {
+                    let [our_inner, peer_inner] = row.times(1);
+                    let ours = percent_over(ours, our_inner);
+                    let peer = percent_over(peer, peer_inner);
+                    println!("{name:width$} {ours:>+9.1} % {peer:>+9.1} % {:>8}", "-");
+                }
+                Kind::Rest { bytes } => {
+                    let [our_inner, peer_inner] = row.times(1);
+                    let ours = (ours - our_inner) / bytes as f64;
+                    let peer = (peer - peer_inner) / bytes as f64;
+                    let ratio = peer / ours;
+                    println!("{name:width$} {ours:>11.2} {peer:>11.2} {ratio:>8.3}");
+                }
             }
         }
     }

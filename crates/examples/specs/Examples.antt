@@ -4,7 +4,7 @@ use Prim.Native.Nat.{ℕ, _+_, _%_}
 use mathlib.Core.Bool.{Bool, cond}
 use mathlib.Core.List.{List, [], _∷_}
 use mathlib.Core.Path.{_≡_}
-use lib.ListN.{length, replicate}
+use lib.ListN.{replicate}
 use Rattle.answer.specs.declared.Answer.{Answer}
 use Rattle.field.specs.Modular.{mulMod, invMod, subgroupGenerator}
 use Rattle.sha256.specs.Sha256.{sha256}
@@ -14,7 +14,7 @@ use Rattle.domain.specs.Domain.{half}
 use Rattle.transcript.specs.Transcript.{challenge}
 use Rattle.fold.specs.Poly.{eval, fold}
 use Rattle.fold.specs.Fold.{next}
-use Rattle.fri.specs.Process.{Process, run, done}
+use Rattle.fri.specs.Process.{run, done}
 use Rattle.fri.specs.Judge.{number, named, endAnswer, verdict}
 
 pub record Example : Type 0 where

@@ -1,7 +1,6 @@
 -- What the checked calls' definitions answer, by the test that decides.
 -- Assumes nothing.
 use mathlib.Core.Path.{_≡_, refl, ap, _∙_}
-use mathlib.Core.Bool.{cond}
 use Prim.Native.Nat.{ℕ, _<_, _≤_}
 use borrow.Author.Tests.{le-ltb, lt-ltb, ne-eqb}
 use Rattle.answer.specs.Table.{not-below-modulus, inverse-of-zero}

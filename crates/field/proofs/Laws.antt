@@ -1,8 +1,8 @@
 -- The laws of arithmetic modulo p that callers use: a commutative ring, powers, and units. No argument has to be below p unless a law says so.
 -- Assumes nothing.
-use mathlib.Core.Path.{_≡_, refl, sym, ap, ap₂, _∙_}
-use Prim.Native.Nat.{ℕ, zero, suc, _+_, _-_, _*_, _/_, _%_, _^_, _<_, _≤_}
-use native.Mathlib.Nat.{mod-lt, mod-eq-of-lt, mod-mod, mod-add-mod, add-mod-mod, add-assoc, add-comm, zero-lt-suc, mul-assoc, mul-comm, mul-one, one-mul, mul-zero, zero-mul, mul-add, add-mul, pow-zero, pow-suc, mul-mod-right}
+use mathlib.Core.Path.{_≡_, refl, sym, ap, _∙_}
+use Prim.Native.Nat.{ℕ, zero, suc, _+_, _-_, _*_, _/_, _%_, _^_, _<_}
+use native.Mathlib.Nat.{mod-lt, mod-eq-of-lt, mod-mod, mod-add-mod, add-mod-mod, add-assoc, zero-lt-suc, mul-assoc, mul-comm, one-mul, zero-mul, mul-add, pow-zero, pow-suc}
 use native.Mathlib.Omega.{arith}
 use lib.Pow.{pow-add}
 use Rattle.field.specs.Modular.{p, addMod, subMod, mulMod, negMod, powMod}

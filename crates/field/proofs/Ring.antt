@@ -1,13 +1,12 @@
 -- How to prove an equation of modular expressions: write both sides as an `Expr`, and say by which multiple of p the plain polynomials differ, in which a
 -- difference is a sum with p − 1 times the number. `omega` proves that equation, since it multiplies products out.
 -- Assumes nothing.
-use mathlib.Core.Path.{_≡_, refl, sym, ap, ap₂, _∙_}
+use mathlib.Core.Path.{_≡_, refl, sym, ap, _∙_}
 use Prim.Native.Nat.{ℕ, _+_, _-_, _*_, _%_, _<_}
 use native.Mathlib.Nat.{mod-mod, mod-add-mod, add-mod-mod, add-mul-mod-self-left, mod-eq-of-lt}
-use native.Mathlib.Omega.{arith}
 use Rattle.field.specs.Modular.{p, addMod, subMod, mulMod, negMod}
 use Rattle.field.proofs.Remainder.{mod-mul, mul-mod}
-use Rattle.field.proofs.Laws.{addMod-lt, subMod-lt, mulMod-lt, negMod-lt, mulMod-minus-one, subMod-neg}
+use Rattle.field.proofs.Laws.{mulMod-minus-one, subMod-neg}
 
 infixl 60 _⊕_
 infixl 60 _⊖_

@@ -1,7 +1,7 @@
 // The prime field p = 3·2^30 + 1 (document 01, "The field"). The functions on u32 are total and reduce any argument; the methods of `Felt`
 // refuse an argument that is not below p.
 ghost use mathlib.Core.Path.{_≡_};
-ghost use Prim.Native.Nat.{_%_, _<_, _≤_};
+ghost use Prim.Native.Nat.{_%_, _<_};
 ghost use Rattle.field.specs.Modular.{p, addMod, subMod, mulMod, negMod, powMod, invMod, generator, subgroupGenerator};
 ghost use Rattle.field.specs.Checked.{refusal, success, checked, sumAnswer, differenceAnswer, productAnswer, negationAnswer, powerAnswer, inverseAnswer};
 use answer::Answer;

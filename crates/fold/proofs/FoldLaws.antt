@@ -1,19 +1,17 @@
 -- `next` has the property that defines it, and is the only number below p that has it; the test without a division says the same.
 -- Assumes nothing.
 use mathlib.Core.Path.{_≡_, refl, sym, ap, _∙_}
-use Prim.Native.Nat.{ℕ, _+_, _*_, _%_, _<_}
+use Prim.Native.Nat.{ℕ, _+_, _*_, _<_}
 use native.Mathlib.Nat.{mod-eq-of-lt}
 use mathlib.Core.Bool.{Bool, true, false}
-use mathlib.Core.List.{List, _∷_}
 use borrow.Author.Tests.{eqb-true, eqb-false, eq-eqb, ne-eqb}
 use lib.Dec.{lit<, eqb}
 use native.Mathlib.Omega.{arith}
 use Rattle.field.specs.Modular.{p, addMod, subMod, mulMod, invMod}
-use Rattle.field.proofs.Ring.{Expr, val, _⊕_, _⊖_, _⊗_, ring, ring-mod}
+use Rattle.field.proofs.Ring.{Expr, val, _⊕_, _⊖_, _⊗_, ring}
 use Rattle.field.proofs.Laws.{addMod-lt, mulMod-lt, mulMod-assoc, mulMod-one, mulMod-cancel, unit-product}
 use Rattle.field.proofs.Inverse.{inverse-law, unit-positive}
 use Rattle.fold.specs.Fold.{scale, folded, next, agrees, Colinear, anything, expected, fits}
-use Rattle.fold.specs.Poly.{eval}
 
 double-unit : (x : ℕ) → 0 < x → x < p → mulMod (mulMod 2 x) (invMod (mulMod 2 x)) ≡ 1
 double-unit x h b =

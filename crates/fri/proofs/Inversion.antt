@@ -1,6 +1,6 @@
 -- A judgement that ends has read the bytes of a proof that holds: the converse of Reading, for bytes below 256. Assumes nothing.
 use Prim.Native.Nat.{ℕ, zero, suc, _+_, _%_, _<_, _≤_}
-use mathlib.Core.Bool.{Bool, true, false, _&&_}
+use mathlib.Core.Bool.{Bool, true, false}
 use mathlib.Core.List.{List, [], _∷_, _++_, append-assoc, append-nil, map, map-id}
 use mathlib.Core.Path.{_≡_, refl, ap, ap₂, sym, _∙_, subst}
 use native.Mathlib.Omega.{arith}
@@ -19,8 +19,9 @@ use Rattle.transcript.specs.Transcript.{start, absorb, drawn}
 use Rattle.fold.specs.Fold.{Expected, anything}
 use Rattle.fri.specs.Process.{Process, need, refused, ended, left, outcome, run, Parser, pure, _>>=_, _>>_, bytes, ensure, many}
 use Rattle.fri.specs.Encoding.{Opening, Proof, openingBytes, queryBytes, encode, IsDigest, IsOpening}
-use Rattle.fri.specs.Judge.{sameBytes, count, number, walk, queries, sections}
+use Rattle.fri.specs.Judge.{count, number, walk, queries, sections}
 use Rattle.fri.specs.Accepted.{drawnLeaf, Accepted}
+use Rattle.fri.proofs.Same.{same-equal}
 use Rattle.fri.proofs.Process.{left-enough, left-few, Any}
 use Rattle.fri.proofs.Chain.{Chain, end, layer, QueryChain, chains-count, chains-form, chains-hold}
 
@@ -184,17 +185,6 @@ inverts-digests c =
       };
     })
 
-same-bytes : (xs ys : List ℕ) → sameBytes xs ys ≡ true → xs ≡ ys
-unfolding sameBytes
-same-bytes [] [] e = refl
-same-bytes [] (y ∷ ys) e = let z : _≡_ {A = ℕ} 0 1 = cc in absurd (omega arith)
-same-bytes (x ∷ xs) [] e = let z : _≡_ {A = ℕ} 0 1 = cc in absurd (omega arith)
-same-bytes (x ∷ xs) (y ∷ ys) e = by (same-bytes xs ys) (eqb x y) refl e
-  where
-    by : (sameBytes xs ys ≡ true → xs ≡ ys) → (b : Bool) → eqb x y ≡ b → (b && sameBytes xs ys) ≡ true → x ∷ xs ≡ y ∷ ys
-    by ih true t f = ap₂ (λ u v. u ∷ v) (eqb-true x y t) (ih f)
-    by ih false t f = let z : _≡_ {A = ℕ} 0 1 = cc in absurd (omega arith)
-
 -- The bytes us are those of openings whose chain holds.
 pub record Walked (hash : List ℕ → Digest) (p : Params) (final : List ℕ) (j m : ℕ) (e : Expected) (s : Digest) (roots : List Digest) (us : List ℕ)
     : Type 0 where
@@ -224,7 +214,7 @@ module _ (hash : List ℕ → Digest) (p : Params) where
       record {
         openings = o ∷ rest .openings;
         bytes = rw (rest .bytes) (simp append-assoc);
-        chain = layer form met (same-bytes _ root met-root) (rest .chain);
+        chain = layer form met (same-equal _ root met-root) (rest .chain);
       }))))))
 
   inverts-queries : (final : List ℕ) (drawing s : Digest) (roots : List Digest) (c i : ℕ)
@@ -269,6 +259,6 @@ module _ (hash : List ℕ → Digest) (p : Params) where
           layer-count = chains-count hash p context proof (hr .count) chains;
           opening-form = chains-form hash p context proof (hr .count) chains;
         };
-        bytes = rw (same-bytes parameters (header p) same, asked .bytes);
+        bytes = rw (same-equal parameters (header p) same, asked .bytes);
         holds = chains-hold hash p context proof (hr .count) chains;
       })))))))))

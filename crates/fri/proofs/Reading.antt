@@ -1,6 +1,5 @@
 -- The bytes of a proof that holds are read to their end, with no refusal. Assumes nothing.
 use Prim.Native.Nat.{ℕ, suc, _+_, _<_}
-use mathlib.Core.Bool.{true}
 use mathlib.Core.List.{List, [], _∷_, append-assoc, map, map-id}
 use mathlib.Core.Path.{_≡_, refl, subst}
 use native.Mathlib.Omega.{arith}
@@ -19,8 +18,9 @@ use Rattle.transcript.specs.Transcript.{start, finish, drawn, absorbed}
 use Rattle.fold.specs.Fold.{Expected, anything}
 use Rattle.fri.specs.Process.{many, bytes}
 use Rattle.fri.specs.Encoding.{Opening, Proof, openingBytes, queryBytes, encode, IsDigest, HasLayout}
-use Rattle.fri.specs.Judge.{sameBytes, count, number, walk, queries, sections}
+use Rattle.fri.specs.Judge.{count, number, walk, queries, sections}
 use Rattle.fri.specs.Accepted.{drawnLeaf, Holds}
+use Rattle.fri.proofs.Same.{same-self}
 use Rattle.fri.proofs.Process.{Reads, reads-pure, reads-bind, reads-bytes, reads-test, reads-ensure, reads-then, reads-last, reads-many}
 use Rattle.fri.proofs.Chain.{Chain, end, layer, holds-chain}
 
@@ -42,11 +42,6 @@ reads-digests : (c : ℕ) (ds : List Digest) → length ds ≡ c → ((i : ℕ) 
 reads-digests c ds e each =
     rw (← e) (rw map-id at (reads-many (λ d. d) [] ds (λ i h. reads-bytes (getD ds i []) 32 (each i (omega arith) .size))))
 
-same-bytes-refl : (xs : List ℕ) → sameBytes xs xs ≡ true
-unfolding sameBytes
-same-bytes-refl [] = refl
-same-bytes-refl (x ∷ xs) = rw (eq-eqb x x refl) (same-bytes-refl xs)
-
 module _ (hash : List ℕ → Digest) (p : Params) where
   reads-walk : {final : List ℕ} {j m : ℕ} {e : Expected} {s : Digest} {roots : List Digest} {os : List Opening} → Chain hash p final j m e s roots os
       → Reads (walk hash p final j m e s roots) (queryBytes os) tt
@@ -58,7 +53,7 @@ module _ (hash : List ℕ → Digest) (p : Params) where
       (reads-bind _ (reads-number (o .second) (form .second-below))
       (reads-test _ not-the-folded-value h
       (reads-bind _ (reads-digests _ (o .siblings) (form .sibling-count) (form .sibling))
-      (reads-test _ path-misses-root (rw opens (same-bytes-refl root)) (reads-walk rest))))))
+      (reads-test _ path-misses-root (rw opens (same-self root)) (reads-walk rest))))))
 
   -- Queries from query i on: the c-th of them is query l = i + c.
   reads-queries : (final : List ℕ) (t s : Digest) (roots : List Digest) (qs : List (List Opening)) (i : ℕ)
@@ -78,7 +73,7 @@ module _ (hash : List ℕ → Digest) (p : Params) where
       let t : Digest = finish hash (absorbed hash s (proof .roots)) (proof .final) in
       reads-then (reads-count 4 (omega arith))
       (reads-bind {xs = header p} _ (reads-bytes (header p) 4 refl)
-      (reads-test _ parameters-differ (same-bytes-refl (header p))
+      (reads-test _ parameters-differ (same-self (header p))
       (reads-then (reads-count (p .k) (omega arith))
       (reads-bind _ (reads-digests (p .k) (proof .roots) (layout .root-count) (layout .root-digest))
       (reads-then (reads-count (finalCount p) (omega (arith, final-small p v)))

@@ -4,38 +4,19 @@ use Prim.Native.Nat.{ℕ, _+_, _≤_, _<_, _%_}
 use native.Mathlib.Omega.{arith}
 use native.Mathlib.Nat.{mod-eq-of-lt}
 use mathlib.Core.Path.{_≡_, refl, sym, _∙_, ap}
-use mathlib.Core.Bool.{Bool, true, false, cond, _&&_, false≢true}
+use mathlib.Core.Bool.{Bool, true, false, cond, _&&_}
 use mathlib.Core.List.{List, [], _∷_}
 use lib.ListN.{length, take, drop, getD, length-drop}
 use lib.Seq.{length-take-le, getD-take, getD-drop, ext-getD}
 use lib.Dec.{eqb, ltb}
-use borrow.Author.Tests.{eq-eqb, eqb-true, lt-ltb, ltb-true}
+use borrow.Author.Tests.{lt-ltb, ltb-true}
 use Rattle.params.specs.declared.Params.{Params}
 use Rattle.params.specs.Parameters.{header}
 use Rattle.domain.specs.Domain.{half}
 use Rattle.domain.proofs.Index.{mod-half}
 use Rattle.fri.specs.Judge.{sameBytes, named}
+use Rattle.fri.proofs.Same.{same-self, same-equal}
 use Rattle.reader.proofs.Laws.{taken}
-
--- A byte string is itself; equal strings have equal bytes.
-pub same-self : (a : List ℕ) → sameBytes a a ≡ true
-unfolding sameBytes
-same-self [] = refl
-same-self (x ∷ xs) = rw (eq-eqb x x refl) (same-self xs)
-
-pub same-equal : (a b : List ℕ) → sameBytes a b ≡ true → a ≡ b
-unfolding sameBytes
-same-equal [] [] e = refl
-same-equal [] (y ∷ ys) e = absurd (false≢true e)
-same-equal (x ∷ xs) [] e = absurd (false≢true e)
-same-equal (x ∷ xs) (y ∷ ys) e = go (same-equal xs ys) (eqb x y) refl
-  where
-    go : (sameBytes xs ys ≡ true → xs ≡ ys) → (t : Bool) → eqb x y ≡ t → (x ∷ xs) ≡ (y ∷ ys)
-    go more true q =
-        let heads : x ≡ y = eqb-true x y q in
-        let tails : xs ≡ ys = more (rw q at e) in
-        cc
-    go more false q = absurd (false≢true (rw q at e))
 
 same-differ : (a b : List ℕ) (i : ℕ) → (getD a i 0 ≡ getD b i 0 → ⊥) → false ≡ sameBytes a b
 same-differ a b i h = go (sameBytes a b) refl

@@ -73,9 +73,9 @@ pub fn after_root(c: Core, roots: &mut [u8; 512], challenges: &mut [u32; 16]) ->
 {
     let root = c.item;
     let before = c.transcript;
-    let state = Transcript { state: before }.absorb_root(root);
-    let challenge = state.challenge();
-    let transcript = state.state;
+    let absorbed = lent_transcript::layer(Transcript { state: before }, root);
+    let transcript = absorbed.state;
+    let challenge = absorbed.challenge;
     let layer = c.cursor.layer;
     let at = layer as usize;
     put_root(roots, at, root);

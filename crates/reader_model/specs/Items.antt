@@ -9,7 +9,6 @@ use Rattle.answer.specs.Table.{answered, closed, count-differs, parameters-diff
 use Rattle.field.specs.Modular.{p as modulus}
 use Rattle.message.specs.Bytes.{num}
 use Rattle.message.specs.Message.{Digest}
-use Rattle.params.specs.declared.Params.{Params}
 use Rattle.params.specs.Parameters.{header, finalCount, ifValid, height, indexBits}
 use Rattle.domain.specs.Domain.{half, point}
 use Rattle.merkle.specs.Merkle.{leaf, join}
@@ -19,7 +18,6 @@ use Rattle.fold.specs.Fold.{scale, folded, agrees}
 use Rattle.fri.specs.Judge.{sameBytes, named}
 use Rattle.reader_model.specs.declared.Stage.{Stage}
 use Rattle.reader_model.specs.declared.Stage.the-variants.{ParameterCount, Parameters, RootCount, Root, CoefficientCount, Coefficient, QueryCount, First, Second, Sibling, Tail, Stopped}
-use Rattle.reader_model.specs.declared.Cursor.{Cursor}
 use Rattle.reader_model.specs.declared.Walk.{Walk}
 use Rattle.reader_model.specs.declared.Core.{Core}
 use Rattle.reader_model.specs.declared.Tables.{Tables}

@@ -1,6 +1,6 @@
 -- Two rotations of a word, by p and by p + q places, are one rotation of the word and its own rotation by q: fewer operations.
 -- Assumes nothing.
-use mathlib.Core.Path.{_≡_, refl, sym, ap, ap₂, _∙_, subst}
+use mathlib.Core.Path.{_≡_, sym, ap, ap₂, _∙_, subst}
 use Prim.Native.Nat.{ℕ, _+_, _-_, _*_, _/_, _%_, _^_, _<_}
 use native.Mathlib.Nat.{add-zero, mul-mod-left, mod-lt, lt-of-le-of-lt}
 use native.Mathlib.Omega.{arith}

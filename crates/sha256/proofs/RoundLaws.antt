@@ -1,14 +1,14 @@
 -- Laws of the rounds and of the schedule, for the loops that compute them.
 -- Assumes nothing.
-use mathlib.Core.Path.{_≡_, refl, sym, ap, _∙_, subst}
-use mathlib.Core.List.{List, [], _∷_, _++_}
+use mathlib.Core.Path.{_≡_, sym, ap, _∙_}
+use mathlib.Core.List.{List, [], _∷_}
 use Prim.Native.Nat.{ℕ, zero, suc, _+_, _-_, _%_, _^_, _≤_, _<_}
 use native.Mathlib.Nat.{add-zero, add-suc}
 use native.Mathlib.Numerals.{add-one}
 use native.Mathlib.Omega.{arith}
 use lib.ListN.{length, getD, take, set, length-set, length-append, List·getD-append}
 use lib.Seq.{getD-take, take-suc-set, take-length, length-take-le}
-use Rattle.sha256.specs.Words.{ch, maj, bigSigma0, bigSigma1, smallSigma0, smallSigma1}
+use Rattle.sha256.specs.Words.{ch, maj, bigSigma0, bigSigma1}
 use Rattle.sha256.specs.Constants.{roundConstants}
 use Rattle.sha256.specs.Private.{LastRounds}
 use Rattle.sha256.specs.Sha256.{round, rounds, sum1, sum2, schedule, extend, nextWord, addWords, compress, absorb, block}

@@ -4,7 +4,7 @@ ghost use Prim.Native.Nat.{_+_, _≤_, _<_};
 ghost use lib.ListN.{length};
 ghost use Rattle.sha256.specs.Sha256.{sha256};
 ghost use Rattle.fri.specs.Judge as judge;
-ghost use Rattle.reader_model.specs.Model.{fed, opened};
+ghost use Rattle.reader_model.specs.Model.{fed};
 use answer::Answer;
 use params::Params;
 use reader_model::Reader;
@@ -18,8 +18,8 @@ pub fn whole(p: Params, context: [u8; 32], proof: &[u8]) -> Answer
         let first = start.state;
         let fed = reader::piece(first, proof);
         let last = fed.state;
-        let end = reader::end(last);
-        end.answer
+        let ended = reader::end(last);
+        ended.answer
     } else {
         start.answer
     }

@@ -1,6 +1,5 @@
 -- The proof of the cycle of calls {power_even, power_odd}. The measure of both is the exponent: the odd rule calls at one less, the even rule at half.
 -- Assumes nothing.
-use mathlib.Core.Path.{_≡_}
 use Prim.Native.Nat.{ℕ, _<_}
 use native.Mathlib.Omega.{arith}
 use borrow.Author.Needs.{needs}

@@ -1,8 +1,6 @@
 -- `sha256::load_whole` meets its contract. The loop's invariant: the first j words are those of the block.
 -- Assumes nothing.
-use mathlib.Core.Path.{_≡_, refl}
-use Prim.Native.Nat.{ℕ, _+_, _-_, _*_, _≤_}
-use native.Mathlib.Nat.{mul-comm}
+use Prim.Native.Nat.{_+_, _-_, _*_}
 use native.Mathlib.Omega.{arith}
 use Rattle.sha256.specs.Sha256.{block, word, pad}
 use Rattle.sha256.proofs.Build.{Filled, filled-none, filled-more, filled-all}

@@ -1,6 +1,5 @@
 -- `sha256::number_of` meets its contract, by the length.
 -- Assumes nothing.
-use mathlib.Core.Path.{sym}
 use borrow.Author.Tests.{le-leb, lt-leb}
 use Rattle.sha256.specs.Private.{hashNumber}
 use Rattle.sha256.proofs.number_of.Statement.{statement}

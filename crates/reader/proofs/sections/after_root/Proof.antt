@@ -8,11 +8,8 @@ use borrow.Author.Needs.{needs}
 use Rattle.reader.proofs.sections.after_root.Statement.{statement}
 use Rattle.reader.proofs.sections.after_root.Tie as tie
 
-absorb-root-requires : tie.Need-absorb-root-requires
-absorb-root-requires c κs = search needs
-
-challenge-requires : tie.Need-challenge-requires
-challenge-requires c κs = search needs
+layer-requires : tie.Need-layer-requires
+layer-requires c κs = search needs
 
 cast-at : tie.Need-cast-at
 cast-at c = search needs
@@ -38,23 +35,22 @@ moved-requires-2 c κs = search needs
 returns : tie.Need-returns
 unfolding afterRoot rootsAfter challengesAfter rootState
 returns c = (
-  rw (← (c .before .before .before .before .before .before .before .before .before .absorb-root .ensures)) (c .moved .ensures ∙ taken _ (lt-ltb _ _ (c .before .before .if1 .taken))),
-  (c .before .before .before .before .before .put-root .ensures, rw (← (c .before .before .before .before .before .before .before .before .before .absorb-root .ensures), ← (c .before .before .before .before .before .before .before .before .challenge .ensures)) refl),
+  rw (← (c .before .before .before .before .before .before .before .before .layer .ensures .0)) (c .moved .ensures ∙ taken _ (lt-ltb _ _ (c .before .before .if1 .taken))),
+  (c .before .before .before .before .before .put-root .ensures, rw (← (c .before .before .before .before .before .before .before .before .layer .ensures .1)) refl),
 )
 
 returns-2 : tie.Need-returns-2
 unfolding afterRoot rootsAfter challengesAfter rootState
 returns-2 c = (
-  rw (← (c .before .before .before .before .before .before .before .before .before .absorb-root .ensures)) (c .moved2 .ensures ∙ left _ (le-ltb _ _ (c .before .before .if1 .left))),
-  (c .before .before .before .before .before .put-root .ensures, rw (← (c .before .before .before .before .before .before .before .before .before .absorb-root .ensures), ← (c .before .before .before .before .before .before .before .before .challenge .ensures)) refl),
+  rw (← (c .before .before .before .before .before .before .before .before .layer .ensures .0)) (c .moved2 .ensures ∙ left _ (le-ltb _ _ (c .before .before .if1 .left))),
+  (c .before .before .before .before .before .put-root .ensures, rw (← (c .before .before .before .before .before .before .before .before .layer .ensures .1)) refl),
 )
 
 pub after-root-spec : {M : Type 1} → statement M
 after-root-spec =
     tie.close
     (tie.spec
-    absorb-root-requires
-    challenge-requires
+    layer-requires
     cast-at
     put-root-requires
     mul-challenges

@@ -1,0 +1,23 @@
+-- `look_up::is_found` meets its contract: it is made of the same tests. Assumes nothing.
+use borrow.Author.Needs.{needs}
+use Rattle.look_up.proofs.LookUpLaws.{found-test}
+use Rattle.look_up.proofs.is_found.Statement.{statement}
+use Rattle.look_up.proofs.is_found.Tie as tie
+
+file-length-requires : tie.Need-file-length-requires
+file-length-requires c κs = search needs
+
+cast-q : tie.Need-cast-q
+cast-q c = search needs
+
+cast-k : tie.Need-cast-k
+cast-k c = search needs
+
+is-valid-requires : tie.Need-is-valid-requires
+is-valid-requires c κs = search needs
+
+returns : tie.Need-returns
+returns c = found-test _ _ _ _ (c .before .before .before .file-length .ensures) (c .is-valid .ensures)
+
+pub is-found-spec : {M : Type 1} → statement M
+is-found-spec = tie.close (tie.spec file-length-requires cast-q cast-k is-valid-requires returns)

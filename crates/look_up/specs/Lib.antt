@@ -1,0 +1,2 @@
+-- The look-up of one opening.
+pub mod LookUp
