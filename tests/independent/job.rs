@@ -10,31 +10,40 @@ use crate::layout::{items, Item, Kind};
 use crate::params::Params;
 use crate::proof::build;
 use crate::rng::Rng;
+use crate::sha256::Digest;
 
 /// Bytes of a job before the proof: the parameters and the context.
-const HEADER: usize = 36;
+pub const HEADER: usize = 36;
 
 /// The proof of a random polynomial of full size, with a random context.
 pub fn random_job(params: Params, seed: u64) -> Vec<u8> {
     let mut rng = Rng::new(seed);
     let context = rng.digest();
     let polynomial = rng.elements(1 << (params.n - params.b));
+    job(params, &context, &build(params, &context, &polynomial))
+}
+
+/// A job's bytes.
+pub fn job(params: Params, context: &Digest, proof: &[u8]) -> Vec<u8> {
     let mut job = vec![params.n, params.b, params.k, params.q];
     job.extend(context);
-    job.extend(build(params, &context, &polynomial));
+    job.extend(proof);
     job
 }
 
 /// The line the program prints for a job, without its newline.
 pub fn line(job: &[u8]) -> String {
-    let answer = answer(job);
+    line_of(answer(job))
+}
+
+pub fn line_of(answer: Answer) -> String {
     match answer.number {
         ACCEPTED => format!("accepted {}", answer.place),
         number => format!("refused {number} at {}", answer.place),
     }
 }
 
-fn answer(job: &[u8]) -> Answer {
+pub fn answer(job: &[u8]) -> Answer {
     if job.len() < HEADER {
         return Answer::new(JOB_TOO_SHORT, job.len());
     }
