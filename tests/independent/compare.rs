@@ -4,13 +4,13 @@ use std::fmt::Debug;
 use std::ops::RangeInclusive;
 use std::process::exit;
 
-use crate::answer::{Answer, Counts, JOB_TOO_SHORT};
+use crate::answer::{Answer, Counts};
 use crate::domain::point;
 use crate::ffi::{self, Coefficients, Felt, FieldAnswer};
 use crate::field::{self, P};
 use crate::fold;
 use crate::hostile;
-use crate::job::{self, HEADER};
+use crate::job;
 use crate::merkle;
 use crate::params::Params;
 use crate::rng::Rng;
@@ -488,12 +488,9 @@ impl Verdicts {
     pub fn job(&mut self, job: &[u8], size: usize, inputs: impl Debug) {
         let ours = job::answer(job);
         self.counts.add(ours.number);
-        if ours.number == JOB_TOO_SHORT {
+        let Some((params, context, proof)) = job::parts(job) else {
             return;
-        }
-        let (head, proof) = job.split_at(HEADER);
-        let params = Params::new(head[0], head[1], head[2], head[3]);
-        let context = head[4..].try_into().expect("32 context bytes");
+        };
         self.whole
             .case(ours, ffi::verdict(params, context, proof), &inputs);
         let theirs = ffi::verdict_in_pieces(params, context, proof, size);

@@ -44,13 +44,18 @@ pub fn line_of(answer: Answer) -> String {
 }
 
 pub fn answer(job: &[u8]) -> Answer {
-    if job.len() < HEADER {
-        return Answer::new(JOB_TOO_SHORT, job.len());
+    match parts(job) {
+        Some((params, context, proof)) => verdict(params, context, proof),
+        None => Answer::new(JOB_TOO_SHORT, job.len()),
     }
-    let (header, proof) = job.split_at(HEADER);
-    let params = Params::new(header[0], header[1], header[2], header[3]);
-    let context = header[4..].try_into().expect("32 context bytes");
-    verdict(params, context, proof)
+}
+
+/// The parameters, the context and the proof, if the job has a whole head.
+pub fn parts(job: &[u8]) -> Option<(Params, &Digest, &[u8])> {
+    let (head, proof) = job.split_at_checked(HEADER)?;
+    let params = Params::new(head[0], head[1], head[2], head[3]);
+    let context = head[4..].try_into().expect("32 context bytes");
+    Some((params, context, proof))
 }
 
 /// Jobs with names: one that is accepted, and ways to be refused.
