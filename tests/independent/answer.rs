@@ -1,5 +1,8 @@
 //! An answer of document 01: a number of its table and a place in bytes.
 
+use std::collections::BTreeMap;
+use std::fmt;
+
 /// Laid out as in C, because the linked library hands answers over by value.
 #[repr(C)]
 #[derive(Clone, Copy, PartialEq, Eq, Debug)]
@@ -34,5 +37,28 @@ impl Answer {
     pub fn new(number: u8, place: usize) -> Answer {
         let place = u32::try_from(place).expect("places fit in 32 bits");
         Answer { number, place }
+    }
+}
+
+/// How often each number was answered.
+#[derive(Default)]
+pub struct Counts {
+    pub of_number: BTreeMap<u8, usize>,
+}
+
+impl Counts {
+    pub fn add(&mut self, number: u8) {
+        *self.of_number.entry(number).or_default() += 1;
+    }
+}
+
+impl fmt::Display for Counts {
+    fn fmt(&self, f: &mut fmt::Formatter) -> fmt::Result {
+        let sum: usize = self.of_number.values().sum();
+        write!(f, "answers: {sum}")?;
+        for (number, count) in &self.of_number {
+            write!(f, "\n  number {number}: {count}")?;
+        }
+        Ok(())
     }
 }

@@ -4,11 +4,13 @@ use std::fmt::Debug;
 use std::ops::RangeInclusive;
 use std::process::exit;
 
-use crate::answer::Answer;
+use crate::answer::{Answer, Counts};
 use crate::domain::point;
 use crate::ffi::{self, Coefficients, Felt, FieldAnswer};
 use crate::field::{self, P};
 use crate::fold;
+use crate::hostile;
+use crate::job;
 use crate::merkle;
 use crate::params::Params;
 use crate::rng::Rng;
@@ -445,6 +447,55 @@ fn compare_eval(rounds: usize) {
         compare(&elements_64(&mut rng), count, rng.element());
     }
     eval.done();
+}
+
+/// Hostile jobs: the verdict on each, whole and in pieces of any size.
+pub fn hostile(seed: u64, count: usize) -> Counts {
+    let mut sizes = Rng::new(!seed);
+    let mut verdicts = Verdicts::new();
+    for job_seed in hostile::job_seeds(seed, count) {
+        let size = match sizes.below(4) {
+            0 => sizes.between(0, 3),
+            1 => sizes.between(30, 40),
+            2 => sizes.between(4, 300),
+            _ => sizes.next() as usize,
+        };
+        verdicts.job(&hostile::job(job_seed), size, ("hostile-job", job_seed));
+    }
+    verdicts.whole.done();
+    verdicts.in_pieces.done();
+    println!("0 disagreements");
+    verdicts.counts
+}
+
+/// The verdicts on jobs, and how often each number was answered.
+pub struct Verdicts {
+    whole: Comparison,
+    in_pieces: Comparison,
+    pub counts: Counts,
+}
+
+impl Verdicts {
+    pub fn new() -> Verdicts {
+        Verdicts {
+            whole: Comparison::of("verdict on a whole proof"),
+            in_pieces: Comparison::of("verdict on a proof in pieces"),
+            counts: Counts::default(),
+        }
+    }
+
+    /// The library knows no jobs too short for a head.
+    pub fn job(&mut self, job: &[u8], size: usize, inputs: impl Debug) {
+        let ours = job::answer(job);
+        self.counts.add(ours.number);
+        let Some((params, context, proof)) = job::parts(job) else {
+            return;
+        };
+        self.whole
+            .case(ours, ffi::verdict(params, context, proof), &inputs);
+        let theirs = ffi::verdict_in_pieces(params, context, proof, size);
+        self.in_pieces.case(ours, theirs, (&inputs, size));
+    }
 }
 
 fn byte(rng: &mut Rng) -> u8 {

@@ -84,6 +84,20 @@ mod exported {
         pub fn test_agrees(x: u32, beta: u32, a: u32, c: u32, v: u32) -> bool;
         pub fn test_next(x: u32, beta: u32, a: u32, c: u32) -> u32;
         pub fn test_eval(coefficients: *const Coefficients, count: usize, x: u32) -> u32;
+
+        pub fn test_verdict(
+            p: Params,
+            context: *const Digest,
+            proof: *const u8,
+            len: usize,
+        ) -> Answer;
+        pub fn test_verdict_in_pieces(
+            p: Params,
+            context: *const Digest,
+            proof: *const u8,
+            len: usize,
+            size: usize,
+        ) -> Answer;
     }
 }
 
@@ -188,4 +202,12 @@ pub fn draw(state: &Digest, params: Params, query: u8) -> u32 {
 
 pub fn eval(coefficients: &Coefficients, count: usize, x: u32) -> u32 {
     unsafe { exported::test_eval(coefficients, count, x) }
+}
+
+pub fn verdict(params: Params, context: &Digest, proof: &[u8]) -> Answer {
+    unsafe { exported::test_verdict(params, context, proof.as_ptr(), proof.len()) }
+}
+
+pub fn verdict_in_pieces(params: Params, context: &Digest, proof: &[u8], size: usize) -> Answer {
+    unsafe { exported::test_verdict_in_pieces(params, context, proof.as_ptr(), proof.len(), size) }
 }

@@ -10,8 +10,9 @@ use crate::sha256::Digest;
 type Source = fn(&mut Rng, Params, &Digest) -> Vec<u8>;
 type Damage = fn(&mut Rng, Params, &mut Vec<u8>);
 
-const SOURCES: [(usize, Source); 7] = [
-    (80, built),
+const SOURCES: [(usize, Source); 8] = [
+    (76, built),
+    (4, spliced),
     (7, wrong_numbers_committed),
     (4, same_numbers_modulo_p_committed),
     (4, of_another_context),
@@ -85,6 +86,22 @@ fn built(rng: &mut Rng, params: Params, context: &Digest) -> Vec<u8> {
     build(params, context, &polynomial(rng, params))
 }
 
+/// The parts of two proofs in one file, joined at the end of an item or
+/// anywhere. Most often they are proofs in one context.
+fn spliced(rng: &mut Rng, params: Params, context: &Digest) -> Vec<u8> {
+    let mut bytes = built(rng, params, context);
+    let other = match rng.below(4) {
+        0 => of_another_context(rng, params, context),
+        _ => built(rng, params, context),
+    };
+    let middle = match rng.below(2) {
+        0 => rng.pick(&layout::items(params)).end,
+        _ => rng.between(0, bytes.len()),
+    };
+    bytes[middle..].copy_from_slice(&other[middle..]);
+    bytes
+}
+
 /// The paths are right, but in one layer, or among the final coefficients,
 /// about one number, half of them or all are wrong.
 fn wrong_numbers_committed(rng: &mut Rng, params: Params, context: &Digest) -> Vec<u8> {
@@ -118,7 +135,7 @@ fn altered(
 }
 
 /// The other 32-bit number with the same meaning modulo p, if there is one.
-fn same_modulo_p(number: u32) -> u32 {
+pub fn same_modulo_p(number: u32) -> u32 {
     number.checked_add(P).unwrap_or(number)
 }
 
@@ -322,6 +339,12 @@ mod tests {
             .all(|number| [1, 23, 24, 25].contains(number)));
         assert!(numbers.contains(&23));
         assert!(numbers_of(of_other_parameters, 200).contains(&21));
+        // A proof spliced at its very start or end is whole.
+        let numbers = numbers_of(spliced, 400);
+        assert!(numbers
+            .iter()
+            .all(|number| [1, 23, 24, 25].contains(number)));
+        assert!(numbers.contains(&1) && numbers.contains(&23));
         assert_eq!(numbers_of(empty, 20), [26]);
         assert!(numbers_of(random_bytes, 200).contains(&20));
     }

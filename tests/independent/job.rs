@@ -10,38 +10,52 @@ use crate::layout::{items, Item, Kind};
 use crate::params::Params;
 use crate::proof::build;
 use crate::rng::Rng;
+use crate::sha256::Digest;
 
 /// Bytes of a job before the proof: the parameters and the context.
-const HEADER: usize = 36;
+pub const HEADER: usize = 36;
 
 /// The proof of a random polynomial of full size, with a random context.
 pub fn random_job(params: Params, seed: u64) -> Vec<u8> {
     let mut rng = Rng::new(seed);
     let context = rng.digest();
     let polynomial = rng.elements(1 << (params.n - params.b));
+    job(params, &context, &build(params, &context, &polynomial))
+}
+
+/// A job's bytes.
+pub fn job(params: Params, context: &Digest, proof: &[u8]) -> Vec<u8> {
     let mut job = vec![params.n, params.b, params.k, params.q];
     job.extend(context);
-    job.extend(build(params, &context, &polynomial));
+    job.extend(proof);
     job
 }
 
 /// The line the program prints for a job, without its newline.
 pub fn line(job: &[u8]) -> String {
-    let answer = answer(job);
+    line_of(answer(job))
+}
+
+pub fn line_of(answer: Answer) -> String {
     match answer.number {
         ACCEPTED => format!("accepted {}", answer.place),
         number => format!("refused {number} at {}", answer.place),
     }
 }
 
-fn answer(job: &[u8]) -> Answer {
-    if job.len() < HEADER {
-        return Answer::new(JOB_TOO_SHORT, job.len());
+pub fn answer(job: &[u8]) -> Answer {
+    match parts(job) {
+        Some((params, context, proof)) => verdict(params, context, proof),
+        None => Answer::new(JOB_TOO_SHORT, job.len()),
     }
-    let (header, proof) = job.split_at(HEADER);
-    let params = Params::new(header[0], header[1], header[2], header[3]);
-    let context = header[4..].try_into().expect("32 context bytes");
-    verdict(params, context, proof)
+}
+
+/// The parameters, the context and the proof, if the job has a whole head.
+pub fn parts(job: &[u8]) -> Option<(Params, &Digest, &[u8])> {
+    let (head, proof) = job.split_at_checked(HEADER)?;
+    let params = Params::new(head[0], head[1], head[2], head[3]);
+    let context = head[4..].try_into().expect("32 context bytes");
+    Some((params, context, proof))
 }
 
 /// Jobs with names: one that is accepted, and ways to be refused.

@@ -306,7 +306,7 @@ impl<'a> Input<'a> {
 #[cfg(test)]
 mod tests {
     use super::*;
-    use crate::proof::{assemble, build, Layer};
+    use crate::proof::{build, Forger, Layer};
     use crate::rng::Rng;
 
     fn answer(number: u8, place: usize) -> Answer {
@@ -355,13 +355,14 @@ mod tests {
         let coefficients = rng.elements(params.final_count());
         // Assembling once with any transcript shows the roots to absorb.
         let mut transcript = Transcript::start(params, &context);
-        let draft = assemble(params, transcript.clone(), &layers, &coefficients);
+        let forger = Forger::default();
+        let draft = forger.assemble(params, transcript.clone(), &layers, &coefficients);
         for root in draft[8..].chunks_exact(32).take(params.k as usize) {
             transcript.absorb_root(root.try_into().unwrap());
         }
         (
             context,
-            assemble(params, transcript, &layers, &coefficients),
+            forger.assemble(params, transcript, &layers, &coefficients),
         )
     }
 

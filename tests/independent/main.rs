@@ -3,19 +3,24 @@
 //! program's answers to lists of calls with its own.
 
 // The comparisons need the library and are built with `--cfg linked` only;
-// without them some parts serve the tests alone.
-#![cfg_attr(not(linked), allow(dead_code))]
+// without them, and in the fuzzer, some parts serve the tests alone.
+#![cfg_attr(any(not(linked), fuzz), allow(dead_code))]
 
 mod answer;
 mod check;
 #[cfg(linked)]
 mod compare;
+mod corpus;
 mod domain;
 #[cfg(linked)]
 mod ffi;
 mod field;
 mod files;
 mod fold;
+#[cfg(fuzz)]
+#[path = "../hostile/fuzz/harness.rs"]
+mod harness;
+mod hostile;
 mod job;
 mod judge;
 mod layout;
@@ -43,8 +48,13 @@ const USAGE: &str = "usage:
   independent build N B K Q SEED > JOB
   independent verdict < JOB
   independent jobs DIR
+  independent corpus DIR
+  independent find-equal-challenge START
   independent scripts SEED COUNT > SCRIPTS
-  independent check-scripts SCRIPTS ANSWERS";
+  independent check-scripts SCRIPTS ANSWERS
+  independent hostile SEED COUNT
+  independent hostile-job SEED > JOB
+  independent hostile-jobs SEED COUNT DIR";
 
 fn main() -> ExitCode {
     let arguments: Vec<String> = env::args().skip(1).collect();
@@ -60,7 +70,7 @@ fn main() -> ExitCode {
 
 fn run(arguments: &[&str]) -> Result<ExitCode, String> {
     match arguments {
-        ["leaves" | "parts"] | ["leaves" | "parts", _] => compare(arguments)?,
+        ["leaves" | "parts"] | ["leaves" | "parts", _] | ["hostile", _, _] => compare(arguments)?,
         ["build", n, b, k, q, seed] => {
             let params = Params::new(number(n)?, number(b)?, number(k)?, number(q)?);
             if !params.valid() {
@@ -82,10 +92,28 @@ fn run(arguments: &[&str]) -> Result<ExitCode, String> {
                 .map_err(|e| format!("{directory}: {e}"))?;
             println!("{} jobs: {}", names.len(), names.join(", "));
         }
+        ["corpus", directory] => {
+            let counts =
+                corpus::write(Path::new(directory)).map_err(|e| format!("{directory}: {e}"))?;
+            println!("{counts}");
+        }
+        ["find-equal-challenge", start] => {
+            println!("{}", corpus::find_equal_challenge(number(start)?));
+        }
         ["scripts", seed, count] => {
             write_scripts(number(seed)?, number(count)?).map_err(|e| e.to_string())?
         }
         ["check-scripts", scripts, answers] => return check_scripts(scripts, answers),
+        ["hostile-job", seed] => io::stdout()
+            .write_all(&hostile::job(number(seed)?))
+            .map_err(|e| e.to_string())?,
+        ["hostile-jobs", seed, count, directory] => {
+            let jobs = hostile::job_seeds(number(seed)?, number(count)?).map(hostile::job);
+            let path = Path::new(directory);
+            let counts = corpus::write_jobs(jobs, &path.join("jobs"), &path.join("lines"))
+                .map_err(|e| format!("{directory}: {e}"))?;
+            println!("{counts}");
+        }
         _ => return Err(USAGE.to_string()),
     }
     Ok(ExitCode::SUCCESS)
@@ -98,10 +126,15 @@ fn number<T: std::str::FromStr>(text: &str) -> Result<T, String> {
 
 #[cfg(linked)]
 fn compare(arguments: &[&str]) -> Result<(), String> {
-    let rounds = arguments.get(1).map(|rounds| number(rounds)).transpose()?;
-    match arguments[0] {
-        "leaves" => compare::leaves(rounds.unwrap_or(compare::LEAVES_ROUNDS)),
-        _ => compare::parts(rounds.unwrap_or(compare::PARTS_ROUNDS)),
+    match arguments {
+        ["leaves"] => compare::leaves(compare::LEAVES_ROUNDS),
+        ["leaves", rounds] => compare::leaves(number(rounds)?),
+        ["parts"] => compare::parts(compare::PARTS_ROUNDS),
+        ["parts", rounds] => compare::parts(number(rounds)?),
+        ["hostile", seed, count] => {
+            println!("{}", compare::hostile(number(seed)?, number(count)?))
+        }
+        _ => return Err(USAGE.to_string()),
     }
     Ok(())
 }

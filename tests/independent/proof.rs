@@ -40,65 +40,94 @@ pub fn build_altered(
     params: Params,
     context: &Digest,
     polynomial: &[u32],
-    mut alter: impl FnMut(u8, &mut [u32]),
+    alter: impl FnMut(u8, &mut [u32]),
 ) -> Vec<u8> {
-    assert!(params.valid(), "parameters not valid");
-    let full_size = 1 << (params.n - params.b);
-    assert!(polynomial.len() <= full_size, "too many coefficients");
-    assert!(polynomial.iter().all(|&coefficient| coefficient < P));
-
-    let mut polynomial = polynomial.to_vec();
-    polynomial.resize(full_size, 0);
-    let mut transcript = Transcript::start(params, context);
-    let mut layers = Vec::new();
-    for j in 0..params.k {
-        let mut values = layer_values(&polynomial, params.n, j);
-        alter(j, &mut values);
-        let layer = Layer::new(values);
-        transcript.absorb_root(&layer.tree.root());
-        polynomial = fold_coefficients(&polynomial, transcript.challenge());
-        layers.push(layer);
-    }
-    alter(params.k, &mut polynomial);
-    assemble(params, transcript, &layers, &polynomial)
+    Forger::default().build(params, context, polynomial, alter)
 }
 
-/// The bytes of a proof from its layers and final coefficients. The transcript
-/// has absorbed the layers' roots. Nothing is checked here, so that tests can
-/// also assemble proofs that must be refused.
-pub fn assemble(
-    params: Params,
-    mut transcript: Transcript,
-    layers: &[Layer],
-    final_coefficients: &[u32],
-) -> Vec<u8> {
-    let Params { n, b, k, q } = params;
-    let mut bytes = Vec::with_capacity(params.file_length());
+/// A prover that may stray from the document in the order of its steps; by
+/// default it does not.
+#[derive(Default)]
+pub struct Forger {
+    /// Draws each challenge before it absorbs the layer's root.
+    pub challenges_first: bool,
+    /// Opens this leaf of layer 0 for every query, whichever is drawn.
+    pub leaf: Option<u32>,
+}
 
-    push_count(&mut bytes, 4);
-    bytes.extend([n, b, k, q]);
+impl Forger {
+    pub fn build(
+        &self,
+        params: Params,
+        context: &Digest,
+        polynomial: &[u32],
+        mut alter: impl FnMut(u8, &mut [u32]),
+    ) -> Vec<u8> {
+        assert!(params.valid(), "parameters not valid");
+        let full_size = 1 << (params.n - params.b);
+        assert!(polynomial.len() <= full_size, "too many coefficients");
+        assert!(polynomial.iter().all(|&coefficient| coefficient < P));
 
-    push_count(&mut bytes, layers.len());
-    for layer in layers {
-        bytes.extend(layer.tree.root());
-    }
-
-    push_count(&mut bytes, final_coefficients.len());
-    for &coefficient in final_coefficients {
-        push_number(&mut bytes, coefficient);
-    }
-    transcript.absorb_final(final_coefficients);
-
-    push_count(&mut bytes, q as usize);
-    for query in 0..q {
-        let mut index = transcript.draw(params, query);
-        for (j, layer) in layers.iter().enumerate() {
-            let (leaf, _) = leaf_of(n, j as u8, index);
-            push_opening(&mut bytes, layer, leaf as usize);
-            index = leaf;
+        let mut polynomial = polynomial.to_vec();
+        polynomial.resize(full_size, 0);
+        let mut transcript = Transcript::start(params, context);
+        let mut layers = Vec::new();
+        for j in 0..params.k {
+            let mut values = layer_values(&polynomial, params.n, j);
+            alter(j, &mut values);
+            let layer = Layer::new(values);
+            let early_challenge = transcript.challenge();
+            transcript.absorb_root(&layer.tree.root());
+            let challenge = match self.challenges_first {
+                true => early_challenge,
+                false => transcript.challenge(),
+            };
+            polynomial = fold_coefficients(&polynomial, challenge);
+            layers.push(layer);
         }
+        alter(params.k, &mut polynomial);
+        self.assemble(params, transcript, &layers, &polynomial)
     }
-    bytes
+
+    /// The bytes of a proof from its layers and final coefficients. The
+    /// transcript has absorbed the layers' roots. Nothing is checked here, so
+    /// that tests can also assemble proofs that must be refused.
+    pub fn assemble(
+        &self,
+        params: Params,
+        mut transcript: Transcript,
+        layers: &[Layer],
+        final_coefficients: &[u32],
+    ) -> Vec<u8> {
+        let Params { n, b, k, q } = params;
+        let mut bytes = Vec::with_capacity(params.file_length());
+
+        push_count(&mut bytes, 4);
+        bytes.extend([n, b, k, q]);
+
+        push_count(&mut bytes, layers.len());
+        for layer in layers {
+            bytes.extend(layer.tree.root());
+        }
+
+        push_count(&mut bytes, final_coefficients.len());
+        for &coefficient in final_coefficients {
+            push_number(&mut bytes, coefficient);
+        }
+        transcript.absorb_final(final_coefficients);
+
+        push_count(&mut bytes, q as usize);
+        for query in 0..q {
+            let drawn = transcript.draw(params, query);
+            let mut index = self.leaf.unwrap_or(drawn);
+            for (j, layer) in layers.iter().enumerate() {
+                let (leaf, _) = leaf_of(n, j as u8, index);
+                push_opening(&mut bytes, layer, leaf as usize);
+                index = leaf;
+            }
+        }
+        bytes
+    }
 }
 
 fn push_opening(bytes: &mut Vec<u8>, layer: &Layer, leaf: usize) {
@@ -202,5 +231,33 @@ mod tests {
         polynomial.resize(16, 0);
         assert_eq!(short, build(params, &context, &polynomial));
         assert_eq!(build(params, &context, &[]), build(params, &context, &[0]));
+    }
+
+    #[test]
+    fn forgers_stray_in_one_step_only() {
+        let mut rng = Rng::new(6);
+        let (params, context) = (Params::new(5, 1, 2, 4), rng.digest());
+        let polynomial = rng.elements(16);
+        let honest = build(params, &context, &polynomial);
+        let forged = |forger: Forger| forger.build(params, &context, &polynomial, |_, _| {});
+
+        let elsewhere = forged(Forger {
+            leaf: Some(3),
+            ..Forger::default()
+        });
+        let openings = params.opening_offset(0, 0);
+        assert_eq!(elsewhere[..openings], honest[..openings]);
+        let query = params.opening_offset(1, 0) - openings;
+        for opened in elsewhere[openings..].chunks(query) {
+            assert_eq!(opened, &elsewhere[openings..][..query]);
+        }
+
+        let early = forged(Forger {
+            challenges_first: true,
+            ..Forger::default()
+        });
+        let first_root = 8 + 32;
+        assert_eq!(early[..first_root], honest[..first_root]);
+        assert_ne!(early[first_root..][..32], honest[first_root..][..32]);
     }
 }

@@ -84,7 +84,7 @@ fn any_valid_params(rng: &mut Rng) -> Params {
 
 /// Parameters that cross one bound, each bound as often as the others, or any
 /// four bytes. An n below 2 leaves no room for b and k either.
-fn any_params_not_valid(rng: &mut Rng) -> Params {
+pub fn any_params_not_valid(rng: &mut Rng) -> Params {
     let b = rng.between(1, 8);
     let k = rng.between(1, 12);
     let q = rng.between(1, 64);

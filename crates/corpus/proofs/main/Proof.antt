@@ -1,0 +1,30 @@
+-- `corpus::main` is safe and ends: a count falls with each job.
+-- Assumes nothing.
+use borrow.Author.Needs.{needs}
+use Rattle.corpus.proofs.main.Statement.{statement}
+use Rattle.corpus.proofs.main.Tie as tie
+
+abbrev Inv-loop : tie.InvT-loop
+Inv-loop fd left₀ left = Unit {0}
+
+abbrev μ-loop : tie.MeasureT-loop
+μ-loop fd left₀ left = left
+
+pub main-spec : {M : Type 1} → statement M
+main-spec =
+    tie.close
+    (tie.spec
+    Inv-loop
+    μ-loop
+    (λ c. search needs)
+    (λ c κs. search needs)
+    (λ c. search needs)
+    (λ c κs. search needs)
+    (λ c. search needs)
+    (λ c. search needs)
+    (λ c κs. search needs)
+    (λ c. search needs)
+    (λ c. search needs)
+    (λ c. search needs)
+    (λ c κs. search needs)
+    (λ c. search needs))
