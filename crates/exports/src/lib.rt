@@ -36,8 +36,8 @@ pub extern "C" fn phieulakhon_open(p: Params, context: &[u8; 32]) -> Turn
     ensures { λ r. ⌜ r ≡ turnOf (opened sha256 p (now (context .entry))) ⌝ }
 {
     let c = *context;
-    let reply = reader::open(p, c);
-    state::turn_of(reply)
+    let first = reader::open(p, c);
+    state::turn_of(first)
 }
 
 // A piece, of any number of bytes.
@@ -46,8 +46,8 @@ pub extern "C" fn phieulakhon_piece(s: State, bytes: &[u8]) -> Turn
     ensures { λ r. ⌜ r ≡ turnOf (pieced sha256 (readerOf s) (now (bytes .entry))) ⌝ }
 {
     let r = state::reader_of(s);
-    let reply = reader::piece(r, bytes);
-    state::turn_of(reply)
+    let next = reader::piece(r, bytes);
+    state::turn_of(next)
 }
 
 // The end call.
@@ -56,6 +56,6 @@ pub extern "C" fn phieulakhon_end(s: State) -> Turn
     ensures { λ r. ⌜ r ≡ turnOf (ended (readerOf s)) ⌝ }
 {
     let r = state::reader_of(s);
-    let reply = reader::end(r);
-    state::turn_of(reply)
+    let last = reader::end(r);
+    state::turn_of(last)
 }
