@@ -1,5 +1,5 @@
 // The reader's state. The crate has no functions: its definitions are the model of the reader, its theorem the claim about the model. The code that
-// equals the model is in the crate above.
+// equals the model is in the crate above. Structs with C's layout are parts of the state that callers in C and Rust hold.
 use answer::Answer;
 use params::Params;
 
@@ -20,6 +20,7 @@ pub enum Stage {
 }
 
 // Where the current item stands: the bytes before it, and its coefficient, query, layer and height.
+#[repr(C)]
 pub struct Cursor {
     pub start: u32,
     pub coefficient: usize,
@@ -30,6 +31,7 @@ pub struct Cursor {
 
 // A query's walk: its index in the layer, the number of the node at its height, the first value, what the next layer's value must meet (scale times it
 // is folded), and the node.
+#[repr(C)]
 pub struct Walk {
     pub index: u32,
     pub position: u32,
@@ -52,6 +54,7 @@ pub struct Core {
 }
 
 // What sections 2 and 3 leave: the roots joined, the challenges, and the final coefficients. Sized for 16 layers.
+#[repr(C)]
 pub struct Tables {
     pub roots: [u8; 512],
     pub challenges: [u32; 16],

@@ -1,0 +1,103 @@
+/* Phieulakhon: the verified reader of FRI proofs, for C and C++ on x86-64 Linux.
+ *
+ * `rt staticlib exports` proves the calls and writes target/staticlib/libexports.a; link a program with it. example.c shows the whole way.
+ *
+ * Every call returns for all arguments, and keeps nothing: there is no heap and no global, so calls from several threads need no lock. A call takes
+ * less than 8 KiB of stack. docs/FORMAT.md has the file's layout and the table of the answers.
+ *
+ * Duties of the caller, which no proof can cover:
+ * - a context is 32 bytes that can be read, and `bytes` or `proof` as many as the length beside it says;
+ * - nobody writes these bytes before the call returns: another thread, or, where they are a mapped file, whoever may write to that file or cut it;
+ * - where a length is 0 nothing is read; pass a pointer that is not null there too, as the type of the proved call asks;
+ * - a state is one that a call of this header returned, and every call gets the state that the call before it left. A call with any other state,
+ *   one of random bytes too, is safe and returns, but its answer says nothing about any file.
+ */
+#ifndef PHIEULAKHON_H
+#define PHIEULAKHON_H
+
+#include <stddef.h>
+#include <stdint.h>
+
+#ifdef __cplusplus
+extern "C" {
+#endif
+
+/* The numbers that these calls answer with. The earliest byte of a file that is wrong decides. */
+enum phieulakhon_number {
+    PHIEULAKHON_OPEN = 0,                     /* no fault so far; never by the end call */
+    PHIEULAKHON_ACCEPTED = 1,                 /* only by the end call and the verdict: the file is a proof that holds */
+    PHIEULAKHON_PARAMETERS_NOT_VALID = 10,    /* at opening */
+    PHIEULAKHON_CLOSED = 11,                  /* a call after the end call, or after 10 */
+    PHIEULAKHON_COUNT_DIFFERS = 20,           /* a section's count */
+    PHIEULAKHON_PARAMETERS_DIFFER = 21,       /* section 1 is not the caller's parameters */
+    PHIEULAKHON_NOT_BELOW_MODULUS = 22,       /* a number that is no field element */
+    PHIEULAKHON_PATH_MISSES_ROOT = 23,        /* a Merkle path */
+    PHIEULAKHON_NOT_THE_FOLDED_VALUE = 24,    /* an opened value that is not the fold of the layer before */
+    PHIEULAKHON_MISSES_FINAL_POLYNOMIAL = 25, /* a query's last fold */
+    PHIEULAKHON_TOO_FEW_BYTES = 26,           /* at the end call */
+    PHIEULAKHON_BYTE_AFTER_THE_END = 27
+};
+
+/* An answer: a number of the table, and the place that decides it: the count of the file's bytes up to and including the deciding one. An open
+ * reader's place is the count of bytes so far, and an accepted file's is its length. A proof is accepted exactly if the number is 1. */
+struct phieulakhon_answer {
+    uint8_t number;
+    uint32_t place;
+};
+
+/* The parameters, as the first four bytes of a job have them: 2^n points, blowup 2^b, k folds, q queries. */
+struct phieulakhon_params {
+    uint8_t n, b, k, q;
+};
+
+/* A reader's state, plain data that the caller keeps. Its fields are for the calls only. A state of zeros answers 0 at 0 to every call. */
+struct phieulakhon_state {
+    uint8_t stage;
+    struct phieulakhon_answer answer;
+    size_t fill;
+    uint8_t item[32];
+    struct phieulakhon_params params;
+    struct {
+        uint32_t start;
+        size_t coefficient;
+        uint8_t query, layer, height;
+    } cursor;
+    struct {
+        uint32_t index, position, first, scale, folded;
+        uint8_t node[32];
+    } walk;
+    uint8_t transcript[32];
+    struct {
+        uint8_t roots[512];
+        uint32_t challenges[16];
+        uint32_t coefficients[64];
+    } tables;
+};
+
+/* What a call of a reader gives: its answer, and the state for the next call. */
+struct phieulakhon_turn {
+    struct phieulakhon_answer answer;
+    struct phieulakhon_state state;
+};
+
+/* The verdict on a whole proof: 1 at its length, or the refusal. */
+struct phieulakhon_answer phieulakhon_verdict(struct phieulakhon_params p, const uint8_t context[32], const uint8_t *proof, size_t length);
+
+/* The length of every file that can be accepted with these parameters; 0 where they are not valid. */
+size_t phieulakhon_file_length(struct phieulakhon_params p);
+
+/* Opens a reader: 0 at 0, or 10 at 0 where the parameters are not valid, and then the reader is closed. */
+struct phieulakhon_turn phieulakhon_open(struct phieulakhon_params p, const uint8_t context[32]);
+
+/* Feeds the next bytes of the file, as many as there are at hand: 0 at the bytes so far, or the refusal. A refused reader stays refused, with the
+ * same answer to every later piece and to the end call, so that a caller may stop at the first number other than 0. */
+struct phieulakhon_turn phieulakhon_piece(struct phieulakhon_state s, const uint8_t *bytes, size_t length);
+
+/* Ends the file: 1 at its length, or the refusal. It leaves the closed state, which answers 11 at 0 to every call. */
+struct phieulakhon_turn phieulakhon_end(struct phieulakhon_state s);
+
+#ifdef __cplusplus
+}
+#endif
+
+#endif

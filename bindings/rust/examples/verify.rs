@@ -1,0 +1,20 @@
+//! Judges a job from standard input (n, b, k, q, 32 context bytes, then the proof), and prints the
+//! line that the program `verify` prints.
+
+use phieulakhon::{verify_reader, Context, Params};
+use std::io::{self, Read};
+
+fn main() -> io::Result<()> {
+    let mut input = io::stdin().lock();
+    let mut head = Vec::new();
+    input.by_ref().take(36).read_to_end(&mut head)?;
+    let Ok([n, b, k, q, context @ ..]) = <[u8; 36]>::try_from(&head[..]) else {
+        println!("refused 12 at {}", head.len());
+        return Ok(());
+    };
+    match verify_reader(input, Params { n, b, k, q }, Context(context))? {
+        Ok(accepted) => println!("{accepted}"),
+        Err(refusal) => println!("{refusal}"),
+    }
+    Ok(())
+}

@@ -1,0 +1,85 @@
+//! A reader of FRI proofs whose every answer is proved: the calls of this crate are a thin, safe
+//! layer over a static library that is built only once the checker has proved that it gives the
+//! answer that the specification defines, for all inputs.
+//!
+//! A proof is judged for parameters and a context that the caller chooses, whole by [`verdict`],
+//! from any input by [`verify_reader`], or as its bytes arrive by a [`Reader`]. All three give the
+//! same answer: [`Accepted`], which only these calls can make, or a [`Refusal`] with its number and
+//! the place in the file that decides it.
+//!
+//! ```
+//! use phieulakhon::{Context, Params, Reader, Refusal};
+//!
+//! let params = Params { n: 4, b: 2, k: 1, q: 2 };
+//! let mut reader = Reader::open(params, Context([0; 32]))?;
+//! assert_eq!(reader.feed(&[4, 0])?, 2);
+//! assert_eq!(reader.feed(&[4, 2, 1])?, 5);
+//! assert_eq!(reader.finish(), Err(Refusal::TooFewBytes { place: 5 }));
+//! # Ok::<(), Refusal>(())
+//! ```
+#![deny(missing_docs)]
+#![deny(unsafe_code)]
+#![forbid(unsafe_op_in_unsafe_fn)]
+
+#[cfg(not(all(target_arch = "x86_64", target_os = "linux")))]
+compile_error!("the proved library is compiled for x86-64 Linux");
+
+mod answer;
+mod ffi;
+mod reader;
+
+pub use answer::{Accepted, Refusal};
+pub use reader::{verify_reader, Reader};
+
+/// The parameters of a proof: 2^n points, blowup 2^b, k folds and q queries.
+///
+/// Valid are n from 2 to 20, b from 1 to 8, k from 1 to 12 and q from 1 to 64 where n is b + k at
+/// least and b + k + 6 at most. Any other are refused by the calls that take them.
+#[repr(C)]
+#[derive(Clone, Copy, Debug, PartialEq, Eq, Hash)]
+pub struct Params {
+    /// The number of points is 2^n.
+    pub n: u8,
+    /// The blowup is 2^b.
+    pub b: u8,
+    /// The number of folds, and of layers with a root.
+    pub k: u8,
+    /// The number of queries.
+    pub q: u8,
+}
+
+impl Params {
+    /// The length of every file that can be accepted with these parameters; none where they are not
+    /// valid.
+    ///
+    /// ```
+    /// use phieulakhon::Params;
+    ///
+    /// assert_eq!(Params { n: 4, b: 2, k: 1, q: 2 }.file_length(), Some(260));
+    /// assert_eq!(Params { n: 4, b: 2, k: 1, q: 0 }.file_length(), None);
+    /// ```
+    #[must_use]
+    pub fn file_length(self) -> Option<usize> {
+        match ffi::file_length(self) {
+            0 => None,
+            length => Some(length),
+        }
+    }
+}
+
+/// The 32 bytes that tie a proof to what it is a proof about.
+#[derive(Clone, Copy, Debug, PartialEq, Eq, Hash)]
+pub struct Context(pub [u8; 32]);
+
+/// The verdict on a whole proof.
+///
+/// ```
+/// use phieulakhon::{verdict, Context, Params, Refusal};
+///
+/// let params = Params { n: 4, b: 2, k: 1, q: 2 };
+/// // the first section has 4 bytes, and not 5
+/// assert_eq!(verdict(params, Context([0; 32]), &[5, 0]), Err(Refusal::CountDiffers { place: 2 }));
+/// ```
+pub fn verdict(params: Params, context: Context, proof: &[u8]) -> Result<Accepted, Refusal> {
+    answer::ended(ffi::verdict(params, &context.0, proof))
+}

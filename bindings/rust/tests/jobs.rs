@@ -1,0 +1,116 @@
+//! The jobs of examples/ and, once it is there, of the corpus: each gets the line that is stored
+//! for it, whole, in random pieces, and from an input.
+
+use phieulakhon::{verdict, verify_reader, Accepted, Context, Params, Reader, Refusal};
+use std::fs;
+use std::path::{Path, PathBuf};
+
+fn repository() -> PathBuf {
+    Path::new(env!("CARGO_MANIFEST_DIR")).join("../..")
+}
+
+fn random(seed: &mut u64) -> usize {
+    *seed = seed
+        .wrapping_mul(6364136223846793005)
+        .wrapping_add(1442695040888963407);
+    (*seed >> 33) as usize
+}
+
+/// The answer to the proof cut at random; a refused reader keeps to its refusal.
+fn in_pieces(
+    params: Params,
+    context: Context,
+    proof: &[u8],
+    longest: usize,
+    seed: &mut u64,
+) -> Result<Accepted, Refusal> {
+    let mut reader = Reader::open(params, context)?;
+    let mut at = 0;
+    while at < proof.len() {
+        let to = proof.len().min(at + random(seed) % (longest + 1));
+        match reader.feed(&proof[at..to]) {
+            Ok(so_far) => assert_eq!(so_far as usize, to),
+            Err(refusal) => {
+                assert_eq!(reader.feed(&proof[to..]), Err(refusal));
+                assert_eq!(reader.clone().finish(), Err(refusal));
+                return Err(refusal);
+            }
+        }
+        at = to;
+    }
+    reader.finish()
+}
+
+fn line(answer: Result<Accepted, Refusal>) -> String {
+    answer.map_or_else(
+        |refusal| refusal.to_string(),
+        |accepted| accepted.to_string(),
+    )
+}
+
+fn check(name: &str, job: &[u8], want: &str, seed: &mut u64) {
+    let (head, proof) = job.split_at(job.len().min(36));
+    let Ok([n, b, k, q, context @ ..]) = <[u8; 36]>::try_from(head) else {
+        assert_eq!(format!("refused 12 at {}", job.len()), want, "{name}");
+        return;
+    };
+    let (params, context) = (Params { n, b, k, q }, Context(context));
+    let answer = verdict(params, context, proof);
+    assert_eq!(line(answer), want, "{name}, whole");
+    for longest in [3, 100, 10_000] {
+        assert_eq!(
+            in_pieces(params, context, proof, longest, seed),
+            answer,
+            "{name}, in pieces of at most {longest} bytes"
+        );
+    }
+    assert_eq!(
+        verify_reader(proof, params, context).expect("a slice"),
+        answer,
+        "{name}, from an input"
+    );
+    if let Ok(accepted) = answer {
+        assert_eq!(
+            Some(accepted.length() as usize),
+            params.file_length(),
+            "{name}"
+        );
+    }
+}
+
+#[test]
+fn examples() {
+    let seed = &mut 1;
+    let mut tried = 0;
+    for entry in fs::read_dir(repository().join("examples")).expect("examples/") {
+        let path = entry.expect("examples/").path();
+        if path.extension().is_some_and(|e| e == "job") {
+            let job = fs::read(&path).expect("a job");
+            let want = fs::read_to_string(path.with_extension("line")).expect("its line");
+            check(&path.display().to_string(), &job, want.trim_end(), seed);
+            tried += 1;
+        }
+    }
+    assert!(tried >= 10, "{tried} examples");
+}
+
+/// crates/corpus/data/jobs: each job after its length as 4 bytes, the low one first;
+/// crates/corpus/stdout has a line for each.
+#[test]
+fn corpus() {
+    let folder = repository().join("crates/corpus");
+    let Ok(jobs) = fs::read(folder.join("data/jobs")) else {
+        println!("no corpus here");
+        return;
+    };
+    let lines = fs::read_to_string(folder.join("stdout")).expect("the corpus's lines");
+    let seed = &mut 2;
+    let mut rest = &jobs[..];
+    for (i, want) in lines.lines().enumerate() {
+        let (length, more) = rest.split_first_chunk().expect("a length");
+        let (job, more) = more.split_at(u32::from_le_bytes(*length) as usize);
+        check(&format!("job {i} of the corpus"), job, want, seed);
+        rest = more;
+    }
+    assert!(rest.is_empty(), "more jobs than lines");
+}

@@ -1,0 +1,2 @@
+-- A state survives the way out to the caller and back, so the calls through the boundary answer as the reader's own.
+pub mod Through
