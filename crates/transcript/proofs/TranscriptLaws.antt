@@ -13,14 +13,10 @@ use Rattle.message.specs.Message.{Digest, taggedHash}
 use Rattle.message.proofs.MessageLaws.{tagged-short, words-length}
 use Rattle.transcript.specs.Transcript.{start, absorb, challenge, finish, drawn, absorbed}
 
-pub tagged-start : (header context : List ℕ) → length header ≤ 32 → length context ≡ 32 → taggedHash 0x10 header context ≡ start sha256 header context
-unfolding start
-tagged-start header context h k = tagged-short 0x10 header context (omega arith)
-
--- The same, from the bytes that the code has of the header.
-pub started : (header context : List ℕ) {h s : List ℕ} → length header ≤ 32 → length context ≡ 32 → h ≡ header → s ≡ taggedHash 0x10 h context
+pub tagged-start : (header context : List ℕ) {h s : List ℕ} → length header ≤ 32 → length context ≡ 32 → h ≡ header → s ≡ taggedHash 0x10 h context
     → s ≡ start sha256 header context
-started header context l k e f = f ∙ ap (λ (x : List ℕ). taggedHash 0x10 x context) e ∙ tagged-start header context l k
+unfolding start
+tagged-start header context l k e f = f ∙ ap (λ (x : List ℕ). taggedHash 0x10 x context) e ∙ tagged-short 0x10 header context (omega arith)
 
 pub tagged-absorb : (s root : Digest) → length s ≡ 32 → length root ≡ 32 → taggedHash 0x11 s root ≡ absorb sha256 s root
 unfolding absorb
