@@ -100,7 +100,8 @@ impl Corpus {
 #[cfg(test)]
 mod tests {
     use super::*;
-    use crate::judge::Reader;
+    use crate::answer::Answer;
+    use crate::judge::{all_faults, Reader};
     use std::sync::OnceLock;
 
     /// All cases but the largest, which take long to judge.
@@ -142,6 +143,22 @@ mod tests {
                 assert_ne!(case.name, other.name);
                 assert!(case.job != other.job, "{} {}", case.name, other.name);
             }
+        }
+    }
+
+    #[test]
+    fn two_faults_meet_at_one_byte() {
+        for (name, other) in [
+            ("not_below_p_before_fold_first", 24),
+            ("not_below_p_before_fold_second", 24),
+            ("folded_value_not_reduced", 24),
+            ("path_before_final", 25),
+        ] {
+            let case = small_cases().find(|case| case.name == name).unwrap();
+            let Answer { place, .. } = job::answer(&case.job);
+            let (params, context, proof) = job::parts(&case.job).unwrap();
+            let number = other;
+            assert!(all_faults(params, context, proof).contains(&Answer { number, place }));
         }
     }
 }

@@ -36,7 +36,7 @@ pub fn judge(params: Params, context: &Digest, bytes: &[u8]) -> Judgement {
 /// Every fault of the table, in no particular order. Missing bytes are read as
 /// zeros: a fault never depends on bytes after its place, so the faults placed
 /// within the bytes are the same however the file goes on.
-fn all_faults(params: Params, context: &Digest, bytes: &[u8]) -> Vec<Answer> {
+pub fn all_faults(params: Params, context: &Digest, bytes: &[u8]) -> Vec<Answer> {
     let Params { n, b, k, q } = params;
     let length = params.file_length();
     let mut file = bytes.to_vec();
