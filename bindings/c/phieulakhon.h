@@ -18,6 +18,10 @@
 #include <stddef.h>
 #include <stdint.h>
 
+#if !defined(__x86_64__) || defined(__ILP32__) || !defined(__linux__)
+#error "the proved library is compiled for x86-64 Linux"
+#endif
+
 #ifdef __cplusplus
 extern "C" {
 #endif

@@ -216,49 +216,30 @@ mod tests {
         std::fs::remove_file(&program).expect("the program just built");
 
         let mut ours = String::new();
-        macro_rules! row {
-            ($struct:ty: $($field:ident).+) => {{
-                let name = concat!($(".", stringify!($field)),+);
-                writeln!(ours, "{name} {}", offset_of!($struct, $($field).+)).unwrap()
-            }};
+        macro_rules! rows {
+            ($($struct:ty: $($($field:ident).+),+;)+) => {
+                $($(
+                    let name = concat!($(".", stringify!($field)),+);
+                    writeln!(ours, "{name} {}", offset_of!($struct, $($field).+)).unwrap();
+                )+)+
+            };
         }
-        writeln!(
-            ours,
-            "{} {} {} {}",
+        let sizes = [
             size_of::<Params>(),
             size_of::<Answer>(),
             size_of::<State>(),
-            size_of::<Turn>()
-        )
-        .unwrap();
-        row!(Params: n);
-        row!(Params: b);
-        row!(Params: k);
-        row!(Params: q);
-        row!(Answer: number);
-        row!(Answer: place);
-        row!(Turn: answer);
-        row!(Turn: state);
-        row!(State: stage);
-        row!(State: answer);
-        row!(State: fill);
-        row!(State: item);
-        row!(State: params);
-        row!(State: cursor.start);
-        row!(State: cursor.coefficient);
-        row!(State: cursor.query);
-        row!(State: cursor.layer);
-        row!(State: cursor.height);
-        row!(State: walk.index);
-        row!(State: walk.position);
-        row!(State: walk.first);
-        row!(State: walk.scale);
-        row!(State: walk.folded);
-        row!(State: walk.node);
-        row!(State: transcript);
-        row!(State: tables.roots);
-        row!(State: tables.challenges);
-        row!(State: tables.coefficients);
+            size_of::<Turn>(),
+        ];
+        writeln!(ours, "{} {} {} {}", sizes[0], sizes[1], sizes[2], sizes[3]).unwrap();
+        rows! {
+            Params: n, b, k, q;
+            Answer: number, place;
+            Turn: answer, state;
+            State: stage, answer, fill, item, params;
+            State: cursor.start, cursor.coefficient, cursor.query, cursor.layer, cursor.height;
+            State: walk.index, walk.position, walk.first, walk.scale, walk.folded, walk.node;
+            State: transcript, tables.roots, tables.challenges, tables.coefficients;
+        }
         assert_eq!(ours, String::from_utf8(said).unwrap());
     }
 }

@@ -18,6 +18,7 @@ use Rattle.reader_model.proofs.Theorem.{claim}
 use Rattle.exports.specs.declared.state.State.{State}
 use Rattle.exports.specs.Boundary.{numberOf, stageOf, stateOf, readerOf, turnOf, boundary}
 
+-- A reader's state survives the way out and back, in all its fields.
 stage-round : (stage : Stage) → stageOf (numberOf stage) ≡ stage
 unfolding stageOf
 stage-round ParameterCount = refl
@@ -38,11 +39,11 @@ unfolding readerOf stateOf
 round-trip r = rw (stage-round (r .core .stage))
 
 module _ (hash : List ℕ → Digest) (p : Params) (context : List ℕ) where
-  -- From any state on, one that no call made too, the answers are the reader's from the state that it stands for.
   after : (x : Reader) (cs : List Call) → answers (boundary hash p context) (stateOf x) cs ≡ answers (reader hash p context) (readerOf (stateOf x)) cs
       → answers (boundary hash p context) (stateOf x) cs ≡ answers (reader hash p context) x cs
   after x cs e = e ∙ ap (λ r. answers (reader hash p context) r cs) (round-trip x)
 
+  -- From any state on, one that no call made too, the answers are the reader's from the state that it stands for.
   pub from-any-state : (s : State) (cs : List Call) → answers (boundary hash p context) s cs ≡ answers (reader hash p context) (readerOf s) cs
   unfolding turnOf
   from-any-state s [] = refl

@@ -1,5 +1,6 @@
 -- `exports::phieulakhon_end` meets its contract.
 -- Assumes nothing.
+use Rattle.exports.proofs.Laws.{turned, ended-from}
 use borrow.Author.Needs.{needs}
 use Rattle.exports.proofs.phieulakhon_end.Statement.{statement}
 use Rattle.exports.proofs.phieulakhon_end.Tie as tie
@@ -14,7 +15,7 @@ turn-of-requires : tie.Need-turn-of-requires
 turn-of-requires c κs = search needs
 
 returns : tie.Need-returns
-returns c = cc
+returns c = search (turned, ended-from, needs)
 
 pub phieulakhon-end-spec : {M : Type 1} → statement M
 phieulakhon-end-spec =

@@ -1,5 +1,6 @@
 -- `exports::phieulakhon_piece` meets its contract.
 -- Assumes nothing.
+use Rattle.exports.proofs.Laws.{turned, pieced-from}
 use borrow.Author.Needs.{needs}
 use Rattle.exports.proofs.phieulakhon_piece.Statement.{statement}
 use Rattle.exports.proofs.phieulakhon_piece.Tie as tie
@@ -14,7 +15,7 @@ turn-of-requires : tie.Need-turn-of-requires
 turn-of-requires c κs = search needs
 
 returns : tie.Need-returns
-returns c = cc
+returns c = search (turned, pieced-from, needs)
 
 pub phieulakhon-piece-spec : {M : Type 1} → statement M
 phieulakhon-piece-spec =

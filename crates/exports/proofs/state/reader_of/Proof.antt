@@ -10,7 +10,7 @@ stage-of-requires c κs = search needs
 
 returns : tie.Need-returns
 unfolding readerOf
-returns c = cc
+returns c = rw (c .before .before .before .before .before .before .before .stage-of .ensures)
 
 pub reader-of-spec : {M : Type 1} → statement M
 reader-of-spec = tie.close (tie.spec stage-of-requires returns)

@@ -10,7 +10,7 @@ state-of-requires c κs = search needs
 
 returns : tie.Need-returns
 unfolding turnOf
-returns c = cc
+returns c = rw (c .state-of .ensures)
 
 pub turn-of-spec : {M : Type 1} → statement M
 turn-of-spec = tie.close (tie.spec state-of-requires returns)
