@@ -6,8 +6,8 @@
 #define ROW(type, field) printf(".%s %zu\n", #field, offsetof(struct phieulakhon_##type, field))
 
 int main(void) {
-    printf("%zu %zu %zu %zu\n", sizeof(struct phieulakhon_params), sizeof(struct phieulakhon_answer), sizeof(struct phieulakhon_state),
-           sizeof(struct phieulakhon_turn));
+    printf("%zu %zu %zu %zu %zu\n", sizeof(struct phieulakhon_params), sizeof(struct phieulakhon_answer), sizeof(struct phieulakhon_state),
+           sizeof(struct phieulakhon_turn), sizeof(struct phieulakhon_span));
     ROW(params, n);
     ROW(params, b);
     ROW(params, k);
@@ -16,6 +16,10 @@ int main(void) {
     ROW(answer, place);
     ROW(turn, answer);
     ROW(turn, state);
+    ROW(span, number);
+    ROW(span, place);
+    ROW(span, start);
+    ROW(span, length);
     ROW(state, stage);
     ROW(state, answer);
     ROW(state, fill);

@@ -32,6 +32,7 @@ enum phieulakhon_number {
     PHIEULAKHON_ACCEPTED = 1,                 /* only by the end call and the verdict: the file is a proof that holds */
     PHIEULAKHON_PARAMETERS_NOT_VALID = 10,    /* at opening */
     PHIEULAKHON_CLOSED = 11,                  /* a call after the end call, or after 10 */
+    PHIEULAKHON_NO_SUCH_OPENING = 16,         /* only by the look-up */
     PHIEULAKHON_COUNT_DIFFERS = 20,           /* a section's count */
     PHIEULAKHON_PARAMETERS_DIFFER = 21,       /* section 1 is not the caller's parameters */
     PHIEULAKHON_NOT_BELOW_MODULUS = 22,       /* a number that is no field element */
@@ -84,6 +85,13 @@ struct phieulakhon_turn {
     struct phieulakhon_state state;
 };
 
+/* Where a look-up found an opening: its answer, and the part of the proof. */
+struct phieulakhon_span {
+    uint8_t number;
+    uint32_t place;
+    size_t start, length;
+};
+
 /* The verdict on a whole proof: 1 at its length, or the refusal. */
 struct phieulakhon_answer phieulakhon_verdict(struct phieulakhon_params p, const uint8_t context[32], const uint8_t *proof, size_t length);
 
@@ -99,6 +107,10 @@ struct phieulakhon_turn phieulakhon_piece(struct phieulakhon_state s, const uint
 
 /* Ends the file: 1 at its length, or the refusal. It leaves the closed state, which answers 11 at 0 to every call. */
 struct phieulakhon_turn phieulakhon_end(struct phieulakhon_state s);
+
+/* Where the opening of a query in a layer, two values and the siblings, stands in a proof of that length: 0 at 0 and `length` bytes from `start` on;
+ * 10, or 16 where the length is not that of a whole file or there is no such query or layer, at 0 with an empty part. It doesn't judge the proof. */
+struct phieulakhon_span phieulakhon_look_up(struct phieulakhon_params p, size_t length, size_t query, size_t layer);
 
 #ifdef __cplusplus
 }

@@ -18,6 +18,7 @@ pub const CLOSED: u8 = 11;
 pub const JOB_TOO_SHORT: u8 = 12;
 pub const HASH_TOO_LONG: u8 = 14;
 pub const INVERSE_OF_ZERO: u8 = 15;
+pub const NO_SUCH_OPENING: u8 = 16;
 pub const COUNT_DIFFERS: u8 = 20;
 pub const PARAMETERS_DIFFER: u8 = 21;
 pub const NUMBER_NOT_BELOW_P: u8 = 22;

@@ -11,6 +11,7 @@ use crate::field::{self, P};
 use crate::fold;
 use crate::hostile;
 use crate::job;
+use crate::layout::look_up;
 use crate::merkle;
 use crate::params::Params;
 use crate::rng::Rng;
@@ -61,6 +62,7 @@ pub fn leaves(rounds: usize) {
 pub fn parts(rounds: usize) {
     compare_params();
     compare_offsets(rounds);
+    compare_look_ups(rounds);
     compare_points();
     compare_merkle(rounds);
     compare_transcripts(rounds);
@@ -230,6 +232,38 @@ fn compare_offsets(rounds: usize) {
         }
     }
     offset.done();
+}
+
+fn compare_look_ups(rounds: usize) {
+    let mut rng = Rng::new(109);
+    let mut found = Comparison::of("look-up");
+    for round in 0..rounds {
+        let params = match round % 4 {
+            0 => any_params(&mut rng),
+            _ => valid_params(&mut rng),
+        };
+        let whole = params.file_length();
+        let length = match round % 3 {
+            0 => whole.saturating_add_signed(rng.below(3) as isize - 1),
+            _ => whole,
+        };
+        let query = rng.below(params.q as usize + 2);
+        let layer = rng.below(params.k as usize + 2);
+        // Numbers that a byte cannot hold are no queries and no layers.
+        for (query, layer) in [(query, layer), (query + 256, layer), (query, layer + 256)] {
+            let (answer, part) = look_up(params, length, query, layer);
+            let theirs = ffi::look_up(params, length, query, layer);
+            found.case(
+                (answer, part),
+                (
+                    Answer::new(theirs.number, theirs.place as usize),
+                    theirs.start..theirs.start + theirs.length,
+                ),
+                (params, length, query, layer),
+            );
+        }
+    }
+    found.done();
 }
 
 fn compare_points() {

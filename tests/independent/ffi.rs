@@ -17,6 +17,16 @@ pub struct FieldAnswer {
     pub value: Felt,
 }
 
+/// What a look-up gives across the boundary: its answer, and the part as numbers.
+#[repr(C)]
+#[derive(Clone, Copy, PartialEq, Eq, Debug)]
+pub struct Span {
+    pub number: u8,
+    pub place: u32,
+    pub start: usize,
+    pub length: usize,
+}
+
 /// Coefficients are lent as a whole array, with a count of those that matter.
 pub type Coefficients = [u32; 64];
 
@@ -51,6 +61,7 @@ mod exported {
         pub fn test_file_length(p: Params) -> usize;
         pub fn test_height(p: Params, layer: u8) -> usize;
         pub fn test_opening_offset(p: Params, query: u8, layer: u8) -> usize;
+        pub fn test_look_up(p: Params, length: usize, query: usize, layer: usize) -> Span;
 
         pub fn test_point(n: u8, layer: u8, index: u32) -> u32;
 
@@ -141,6 +152,7 @@ plain_wrappers! {
     file_length(p: Params) -> usize = test_file_length;
     height(p: Params, layer: u8) -> usize = test_height;
     opening_offset(p: Params, query: u8, layer: u8) -> usize = test_opening_offset;
+    look_up(p: Params, length: usize, query: usize, layer: usize) -> Span = test_look_up;
 
     point(n: u8, layer: u8, index: u32) -> u32 = test_point;
 

@@ -2,6 +2,7 @@
 
 use std::ops::Range;
 
+use crate::answer::{Answer, NO_SUCH_OPENING, PARAMETERS_NOT_VALID};
 use crate::params::Params;
 
 #[derive(Clone, Copy, PartialEq, Eq, Debug)]
@@ -66,6 +67,31 @@ pub fn items(params: Params) -> Vec<Item> {
         }
     }
     items
+}
+
+/// The look-up of an opening in a proof of that length: its answer, and which of
+/// the proof's bytes it hands back.
+pub fn look_up(
+    params: Params,
+    length: usize,
+    query: usize,
+    layer: usize,
+) -> (Answer, Range<usize>) {
+    if !params.valid() {
+        return (Answer::new(PARAMETERS_NOT_VALID, 0), 0..0);
+    }
+    if length != params.file_length() || query >= params.q as usize || layer >= params.k as usize {
+        return (Answer::new(NO_SUCH_OPENING, 0), 0..0);
+    }
+    let items = items(params);
+    let mut openings = items.chunk_by(|a, b| !(a.kind == Kind::Sibling && b.kind == Kind::Value));
+    let opening = openings
+        .nth(query * params.k as usize + layer)
+        .expect("the opening is in the file");
+    let values = opening.iter().position(|item| item.kind == Kind::Value);
+    let first = opening[values.expect("an opening has values")];
+    let last = opening[opening.len() - 1];
+    (Answer::DONE, first.start..last.end)
 }
 
 #[cfg(test)]

@@ -54,6 +54,9 @@ pub enum Refusal {
     /// 11: the reader is closed. No call of this crate reaches a closed reader; an answer outside
     /// the table, which no proved call gives, would be read as this one.
     Closed,
+    /// 16: no such opening, only by a look-up: the length is not that of a whole file, or there is no
+    /// such query or layer.
+    NoSuchOpening,
     /// 20: a section's count differs from what the parameters ask for.
     CountDiffers {
         /// The count's second byte.
@@ -101,6 +104,7 @@ impl Refusal {
         let place = answer.place;
         match answer.number {
             10 => Refusal::ParametersNotValid,
+            16 => Refusal::NoSuchOpening,
             20 => Refusal::CountDiffers { place },
             21 => Refusal::ParametersDiffer { place },
             22 => Refusal::NotBelowModulus { place },
@@ -117,6 +121,7 @@ impl Refusal {
         match self {
             Refusal::ParametersNotValid => (10, 0),
             Refusal::Closed => (11, 0),
+            Refusal::NoSuchOpening => (16, 0),
             Refusal::CountDiffers { place } => (20, place),
             Refusal::ParametersDiffer { place } => (21, place),
             Refusal::NotBelowModulus { place } => (22, place),
@@ -177,7 +182,7 @@ mod tests {
     fn every_number_is_read_as_itself_or_refused() {
         for number in 0..=u8::MAX {
             let answer = Answer { number, place: 7 };
-            let of_table = matches!(number, 10 | 11 | 20..=27);
+            let of_table = matches!(number, 10 | 11 | 16 | 20..=27);
             assert_eq!(so_far(answer).is_ok(), number == 0);
             assert_eq!(ended(answer).is_ok(), number == 1);
             assert_eq!(

@@ -63,6 +63,14 @@ pub struct Turn {
     pub state: State,
 }
 
+#[repr(C)]
+pub struct Span {
+    pub number: u8,
+    pub place: u32,
+    pub start: usize,
+    pub length: usize,
+}
+
 extern "C" {
     fn phieulakhon_verdict(
         p: Params,
@@ -74,6 +82,7 @@ extern "C" {
     fn phieulakhon_open(p: Params, context: *const [u8; 32]) -> Turn;
     fn phieulakhon_piece(s: State, bytes: *const u8, length: usize) -> Turn;
     fn phieulakhon_end(s: State) -> Turn;
+    fn phieulakhon_look_up(p: Params, length: usize, query: usize, layer: usize) -> Span;
 }
 
 pub fn verdict(p: Params, context: &[u8; 32], proof: &[u8]) -> Answer {
@@ -101,6 +110,11 @@ pub fn piece(s: &State, bytes: &[u8]) -> Turn {
 pub fn end(s: &State) -> Turn {
     // SAFETY: the state is plain numbers, by value.
     unsafe { phieulakhon_end(*s) }
+}
+
+pub fn look_up(p: Params, length: usize, query: usize, layer: usize) -> Span {
+    // SAFETY: numbers in and out.
+    unsafe { phieulakhon_look_up(p, length, query, layer) }
 }
 
 #[cfg(test)]
@@ -229,12 +243,15 @@ mod tests {
             size_of::<Answer>(),
             size_of::<State>(),
             size_of::<Turn>(),
+            size_of::<Span>(),
         ];
-        writeln!(ours, "{} {} {} {}", sizes[0], sizes[1], sizes[2], sizes[3]).unwrap();
+        let sizes = sizes.map(|size| size.to_string());
+        writeln!(ours, "{}", sizes.join(" ")).unwrap();
         rows! {
             Params: n, b, k, q;
             Answer: number, place;
             Turn: answer, state;
+            Span: number, place, start, length;
             State: stage, answer, fill, item, params;
             State: cursor.start, cursor.coefficient, cursor.query, cursor.layer, cursor.height;
             State: walk.index, walk.position, walk.first, walk.scale, walk.folded, walk.node;

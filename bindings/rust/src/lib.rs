@@ -87,3 +87,25 @@ pub struct Context(pub [u8; 32]);
 pub fn verdict(params: Params, context: Context, proof: &[u8]) -> Result<Accepted, Refusal> {
     answer::ended(ffi::verdict(params, &context.0, proof))
 }
+
+/// The opening of a query in a layer, two values and the siblings from the leaf up, as the part of
+/// the proof where it stands. It doesn't judge the proof: of one that is accepted, the part is
+/// exactly that opening's encoding.
+///
+/// ```
+/// use phieulakhon::{opening, Params, Refusal};
+///
+/// let params = Params { n: 4, b: 2, k: 1, q: 2 };
+/// let proof = [0; 260];
+/// assert_eq!(opening(params, &proof, 1, 0).map(<[u8]>::len), Ok(8 + 3 * 32));
+/// assert_eq!(opening(params, &proof, 2, 0), Err(Refusal::NoSuchOpening));
+/// assert_eq!(opening(params, &proof[1..], 0, 0), Err(Refusal::NoSuchOpening));
+/// ```
+pub fn opening(params: Params, proof: &[u8], query: usize, layer: usize) -> Result<&[u8], Refusal> {
+    let span = ffi::look_up(params, proof.len(), query, layer);
+    let answer = ffi::Answer {
+        number: span.number,
+        place: span.place,
+    };
+    answer::so_far(answer).map(|_| &proof[span.start..span.start + span.length])
+}

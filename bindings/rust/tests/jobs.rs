@@ -1,7 +1,7 @@
 //! The jobs of examples/ and, once it is there, of the corpus: each gets the line that is stored
 //! for it, whole, in random pieces, and from an input.
 
-use phieulakhon::{verdict, verify_reader, Accepted, Context, Params, Reader, Refusal};
+use phieulakhon::{opening, verdict, verify_reader, Accepted, Context, Params, Reader, Refusal};
 use std::fs;
 use std::path::{Path, PathBuf};
 
@@ -113,4 +113,24 @@ fn corpus() {
         rest = more;
     }
     assert!(rest.is_empty(), "more jobs than lines");
+}
+
+/// The openings of an accepted proof lie side by side from the first to the end.
+#[test]
+fn openings() {
+    let job = fs::read(repository().join("examples/accepted.job")).expect("a job");
+    let [n, b, k, q] = job[..4] else { unreachable!() };
+    let (params, proof) = (Params { n, b, k, q }, &job[36..]);
+    let mut parts = Vec::new();
+    for query in 0..q.into() {
+        for layer in 0..k.into() {
+            parts.push(opening(params, proof, query, layer).expect("an opening"));
+        }
+    }
+    assert!(proof.ends_with(&parts.concat()));
+    assert_eq!(parts.concat().len(), 2 * 104);
+    assert_eq!(opening(params, proof, 0, k.into()), Err(Refusal::NoSuchOpening));
+    assert_eq!(opening(params, proof, usize::MAX, usize::MAX), Err(Refusal::NoSuchOpening));
+    let not_valid = Params { q: 0, ..params };
+    assert_eq!(opening(not_valid, proof, 0, 0), Err(Refusal::ParametersNotValid));
 }

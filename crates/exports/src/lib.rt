@@ -7,8 +7,10 @@ ghost use Rattle.sha256.specs.Sha256.{sha256};
 ghost use Rattle.params.specs.Parameters as parameters;
 ghost use Rattle.fri.specs.Judge as judge;
 ghost use Rattle.reader_model.specs.Model.{opened, pieced, ended};
+ghost use Rattle.look_up.specs.LookUp.{lookUpSpan};
 ghost use Rattle.exports.specs.Boundary.{readerOf, turnOf};
 use answer::Answer;
+use look_up::Span;
 use params::Params;
 use state::State;
 use state::Turn;
@@ -58,4 +60,12 @@ pub extern "C" fn phieulakhon_end(s: State) -> Turn
     let r = state::reader_of(s);
     let last = reader::end(r);
     state::turn_of(last)
+}
+
+// Where the opening of a query in a layer stands in a proof of that length.
+#[no_mangle]
+pub extern "C" fn phieulakhon_look_up(p: Params, length: usize, query: usize, layer: usize) -> Span
+    ensures { λ r. ⌜ r ≡ lookUpSpan p length query layer ⌝ }
+{
+    look_up::look_up_span(p, length, query, layer)
 }

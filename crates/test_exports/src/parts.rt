@@ -10,6 +10,8 @@ ghost use Rattle.merkle.specs.Merkle as merkle;
 ghost use Rattle.transcript.specs.Transcript as transcript;
 ghost use Rattle.fold.specs.Poly as poly;
 ghost use Rattle.fold.specs.Fold as fold;
+ghost use Rattle.look_up.specs.LookUp.{lookUpSpan};
+use look_up::Span;
 use params::Params;
 use transcript::Transcript;
 
@@ -175,4 +177,11 @@ pub extern "C" fn test_eval(coefficients: &[u32; 64], count: usize, x: u32) -> u
 {
     let cs = *coefficients;
     fold::eval(cs, count, x)
+}
+
+#[no_mangle]
+pub extern "C" fn test_look_up(p: Params, length: usize, query: usize, layer: usize) -> Span
+    ensures { λ r. ⌜ r ≡ lookUpSpan p length query layer ⌝ }
+{
+    look_up::look_up_span(p, length, query, layer)
 }
