@@ -8,7 +8,8 @@ use crate::answer::{Answer, ACCEPTED, JOB_TOO_SHORT};
 use crate::judge::verdict;
 use crate::layout::{items, Item, Kind};
 use crate::params::Params;
-use crate::proof::build;
+use crate::field;
+use crate::proof::build_altered;
 use crate::rng::Rng;
 use crate::sha256::Digest;
 
@@ -17,10 +18,16 @@ pub const HEADER: usize = 36;
 
 /// The proof of a random polynomial of full size, with a random context.
 pub fn random_job(params: Params, seed: u64) -> Vec<u8> {
+    altered_job(params, seed, |_, _| {})
+}
+
+/// The same, but the prover alters the numbers of a layer before it commits to them.
+fn altered_job(params: Params, seed: u64, alter: impl FnMut(u8, &mut [u32])) -> Vec<u8> {
     let mut rng = Rng::new(seed);
     let context = rng.digest();
     let polynomial = rng.elements(1 << (params.n - params.b));
-    job(params, &context, &build(params, &context, &polynomial))
+    let proof = build_altered(params, &context, &polynomial, alter);
+    job(params, &context, &proof)
 }
 
 /// A job's bytes.
@@ -76,6 +83,14 @@ pub fn examples() -> Vec<(&'static str, Vec<u8>)> {
     let values = of_kind(Kind::Value);
     let siblings = of_kind(Kind::Sibling);
 
+    let one_more = |layer: u8| {
+        move |j: u8, numbers: &mut [u32]| {
+            if j == layer {
+                numbers.iter_mut().for_each(|number| *number = field::add(*number, 1));
+            }
+        }
+    };
+
     let no_queries = |job: &mut Vec<u8>| {
         let count = counts[3];
         job[HEADER..][count.range()].fill(0);
@@ -97,6 +112,16 @@ pub fn examples() -> Vec<(&'static str, Vec<u8>)> {
             altered(&|job| {
                 job[HEADER..][coefficients[0].range()].copy_from_slice(&[0x01, 0x00, 0x00, 0xc0])
             }),
+        ),
+        // A file of two queries, asked for three.
+        ("other_parameters", altered(&|job| job[3] = 3)),
+        (
+            "value_not_folded",
+            altered_job(Params::new(4, 1, 2, 2), 1, one_more(1)),
+        ),
+        (
+            "final_polynomial_missed",
+            altered_job(params, 1, one_more(params.k)),
         ),
         ("another_context", altered(&|job| job[HEADER - 1] ^= 1)),
         (
@@ -168,6 +193,10 @@ mod tests {
             ("flipped_value", "refused 23 at 156"),
             ("flipped_sibling", "refused 23 at 260"),
             ("number_not_below_p", "refused 22 at 46"),
+            ("other_parameters", "refused 21 at 6"),
+            // 12 + 64 + 8 before the openings, 104 in layer 0, two values in layer 1
+            ("value_not_folded", "refused 24 at 196"),
+            ("final_polynomial_missed", "refused 25 at 156"),
             ("another_context", "refused 23 at 156"),
             ("one_byte_short", "refused 26 at 259"),
             ("one_byte_more", "refused 27 at 261"),
