@@ -20,6 +20,7 @@ ROOT = Path(__file__).resolve().parent.parent
 LIBRARY = {"mathlib", "Prim", "native", "lib", "borrow"}
 LANGUAGE = set("λ . , ( ) { } ⌜ ⌝ × → :".split())  # the contract language's own signs
 WORDS = {"now", "entry", "exit", "tt"}  # its own words: a reference's value, at the call and at the return
+OUTSIDE = {"job::judge"}  # its result hangs on what a descriptor gives: the contract states what all correct ones have in common
 TESTS_ONLY = {"test_exports"}  # passes calls on to the comparisons; no interface for users
 
 faults = []
@@ -323,7 +324,8 @@ def main():
             fault(call.name, "has a requires")
         if not call.ensures:
             fault(call.name, "has no ensures")
-        check_tight(call, fields_of)
+        if call.name not in OUTSIDE:
+            check_tight(call, fields_of)
         check_meaning(call)
     check_names()
     promises = (ROOT / "docs" / "PROMISES.md").read_text()

@@ -22,7 +22,7 @@ CHANGES = [
     ("crates/field/proofs/Laws.antt", "\npub mulMod-lt", "\naxiom pub mulMod-none : Unit\n\npub mulMod-lt", "an axiom"),
     ("crates/fold/must-fail/scale_is_the_square.edit", "old: ", "old: not there ", "its text stands 0 times"),
     ("docs/PROMISES.md", "| `fold::scale` |", "| `fold::scales` |", "fold::scale: has not two wrong programs"),
-    ("docs/PROMISES.md", "`fold-law`", "`fold-low`", "fold/FoldLaws has no fold-low"),
+    ("docs/PROMISES.md", "FoldLaws: fold-law`", "FoldLaws: fold-low`", "fold/FoldLaws has no fold-low"),
 ]
 
 

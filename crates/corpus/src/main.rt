@@ -1,5 +1,6 @@
 // Judges the jobs of the file `jobs` and writes the line of each. A job stands after its length, 4 bytes, low byte first.
-ghost use Prim.Native.Nat.{_<_};
+use libc::STDOUT_FILENO;
+ghost use Prim.Native.Nat.{_≤_, _<_};
 
 fn wide(x: u8) -> u32
     ensures { λ r. ⌜ r < 256 ⌝ }
@@ -14,6 +15,29 @@ fn length_of(b: &[u8; 4]) -> u32 {
     low + 65536 * high
 }
 
+// How much of the rest one read asks for.
+fn chunk(rest: u32) -> usize
+    requires { ⌜ 0 < rest ⌝ }
+    ensures { λ r. ⌜ (0 < r) × ((r ≤ 4096) × (r ≤ rest)) ⌝ }
+{
+    if rest < 4096 { rest as usize } else { 4096 }
+}
+
+// Passes over so many bytes; false where the file ends before.
+fn skip(fd: i32, count: u32) -> bool {
+    let mut rest = count;
+    while 0 < rest {
+        let want = chunk(rest);
+        let mut buf = io::buffer();
+        let got = io::read_full(fd, &mut buf[..want]);
+        if got < want {
+            return false;
+        }
+        rest -= want as u32;
+    }
+    true
+}
+
 // One job; false where the file ends.
 fn run_job(fd: i32) -> bool {
     let mut size = [0u8; 4];
@@ -22,8 +46,11 @@ fn run_job(fd: i32) -> bool {
         return false;
     }
     let judged = job::judge(fd, length_of(&size));
-    job::print_line(judged.answer);
-    job::skip(fd, judged.rest)
+    let line = job::line(judged.answer);
+    let bytes = line.bytes;
+    let length = line.length;
+    io::write_all(STDOUT_FILENO, &bytes[..length]);
+    skip(fd, judged.rest)
 }
 
 fn main() {

@@ -1,9 +1,14 @@
 // Jobs: n, b, k, q, 32 context bytes, then the proof. A job is read from a file in chunks, with fixed memory, and judged; its answer makes a
 // line, `accepted L` or `refused NUMBER at PLACE`.
-use answer::Answer;
-use libc::STDOUT_FILENO;
-ghost use Prim.Native.Nat.{_≤_, _<_};
+ghost use mathlib.Core.Path.{_≡_};
+ghost use Prim.Native.Nat.{_+_, _-_, _≤_, _<_};
+ghost use lib.ListN.{length};
 ghost use Rattle.io.specs.Counts.{Counts};
+ghost use Rattle.answer.specs.Table.{answered, job-too-short};
+ghost use Rattle.job.specs.Job.{Answers};
+ghost use Rattle.job.specs.Line.{lineOf, stored, decimal};
+ghost use Rattle.job.specs.Private.{Feeds, Judges, longer};
+use answer::Answer;
 use params::Params;
 use reader_model::Reader;
 
@@ -51,7 +56,7 @@ fn read_some(fd: i32, part: &mut [u8]) -> usize
 // Reads once, and feeds what came.
 fn feed_some(fd: i32, state: Reader, want: usize) -> Turn
     requires { ⌜ want ≤ 4096 ⌝ }
-    ensures { λ r. ⌜ r .fed ≤ want ⌝ }
+    ensures { λ r. ⌜ (r .fed ≤ want) × Feeds state (r .fed) (r .state) ⌝ }
 {
     let mut buf = io::buffer();
     let n = least(read_some(fd, &mut buf[..want]), want);
@@ -66,7 +71,9 @@ fn feed_some(fd: i32, state: Reader, want: usize) -> Turn
 }
 
 // Feeds at most so many bytes, and stops after the first piece refused.
-fn feed_all(fd: i32, state: Reader, most: u32) -> Fed {
+fn feed_all(fd: i32, state: Reader, most: u32) -> Fed
+    ensures { λ r. ⌜ (r .rest ≤ most) × Feeds state (most - r .rest) (r .state) ⌝ }
+{
     let mut s = state;
     let mut rest = most;
     while 0 < rest {
@@ -85,59 +92,70 @@ fn feed_all(fd: i32, state: Reader, most: u32) -> Fed {
 }
 
 // The answer to a job with this head, whose proof has at most so many bytes.
-fn judge_proof(fd: i32, p: Params, context: [u8; 32], most: u32) -> Judged {
+fn judge_proof(fd: i32, p: Params, context: [u8; 32], most: u32) -> Judged
+    ensures { λ r. ⌜ Judges p context most r ⌝ }
+{
     let opened = reader::open(p, context);
-    let first = opened.answer;
-    if first.number != answer::OPEN {
-        return Judged {
-            answer: first,
-            rest: most,
-        };
-    }
-    let fed = feed_all(fd, opened.state, most);
-    let last = reader::end(fed.state);
-    let answer = last.answer;
-    Judged {
-        answer,
-        rest: fed.rest,
+    if params::is_valid(p) {
+        let first = opened.state;
+        let fed = feed_all(fd, first, most);
+        let last = fed.state;
+        let end = reader::end(last);
+        let answer = end.answer;
+        Judged {
+            answer,
+            rest: fed.rest,
+        }
+    } else {
+        let answer = opened.answer;
+        Judged { answer, rest: most }
     }
 }
 
-// The answer to a job that ends in its head.
-fn too_short(got: usize) -> Judged
-    requires { ⌜ got < 36 ⌝ }
+// The answer to a job that ends in its head, after so many bytes.
+fn too_short(got: usize, most: u32) -> Judged
+    requires { ⌜ (got < 36) × (got ≤ most) ⌝ }
+    ensures { λ r. ⌜ (r .answer ≡ answered job-too-short got) × (r .rest ≡ most - got) ⌝ }
 {
+    let place = got as u32;
     let answer = Answer {
         number: answer::JOB_TOO_SHORT,
-        place: got as u32,
+        place,
     };
-    Judged { answer, rest: 0 }
+    Judged {
+        answer,
+        rest: most - place,
+    }
 }
 
-// A job of so many bytes, too few for a head.
-fn judge_short(fd: i32, most: usize) -> Judged
+// A job of at most so many bytes, too few for a head.
+fn judge_short(fd: i32, most: u32) -> Judged
     requires { ⌜ most < 36 ⌝ }
+    ensures { λ r. ⌜ Answers most r ⌝ }
 {
     let mut head = [0u8; 36];
-    let got = io::read_full(fd, &mut head[..most]);
-    too_short(least(got, most))
+    let want = most as usize;
+    let got = io::read_full(fd, &mut head[..want]);
+    too_short(least(got, want), most)
 }
 
 // The answer to the job that the file goes on with. It ends where the file does, and has at most so many bytes; no reader is open past byte L, so
 // that a most of u32::MAX is as good as none.
-pub fn judge(fd: i32, most: u32) -> Judged {
+pub fn judge(fd: i32, most: u32) -> Judged
+    ensures { λ r. ⌜ Answers most r ⌝ }
+{
     if most < 36 {
-        return judge_short(fd, most as usize);
+        return judge_short(fd, most);
     }
     let mut p = [0u8; 4];
     let got = io::read_full(fd, &mut p);
     if got < 4 {
-        return too_short(got);
+        return too_short(got, most);
     }
     let mut context = [0u8; 32];
     let more = io::read_full(fd, &mut context);
     if more < 32 {
-        return too_short(4 + more);
+        return too_short(4 + more, most);
     }
     let params = Params {
         n: p[0],
@@ -148,34 +166,64 @@ pub fn judge(fd: i32, most: u32) -> Judged {
     judge_proof(fd, params, context, most - 36)
 }
 
-// Passes over so many bytes; false where the file ends before.
-pub fn skip(fd: i32, count: u32) -> bool {
-    let mut rest = count;
-    while 0 < rest {
-        let want = chunk(rest);
-        let mut buf = io::buffer();
-        let got = io::read_full(fd, &mut buf[..want]);
-        if got < want {
-            return false;
-        }
-        rest -= want as u32;
-    }
-    true
+// A line: its characters, then zeros; and how many characters there are.
+pub struct Text {
+    pub bytes: [u8; 32],
+    pub length: usize,
 }
 
-fn wide(x: u8) -> u64 {
-    x as u64
+fn wide(x: u8) -> u32
+    ensures { λ r. ⌜ r ≡ x ⌝ }
+{
+    x as u32
+}
+
+// Stores more characters.
+fn put(line: Text, part: &[u8]) -> Text
+    requires { ⌜ line .length + length (now part) ≤ 32 ⌝ }
+    ensures { λ r. ⌜ r ≡ longer line (now (part .entry)) ⌝ }
+{
+    let mut bytes = line.bytes;
+    let at = line.length;
+    let mut i = 0;
+    while i < part.len() {
+        bytes[at + i] = part[i];
+        i += 1;
+    }
+    Text {
+        bytes,
+        length: at + i,
+    }
+}
+
+// Stores a number in decimal.
+fn put_decimal(line: Text, n: u32) -> Text
+    requires { ⌜ line .length + length (decimal n) ≤ 32 ⌝ }
+    ensures { λ r. ⌜ r ≡ longer line (decimal n) ⌝ }
+{
+    let mut text = [0u8; 20];
+    let k = io::decimal(n as u64, &mut text);
+    put(line, &text[..k])
 }
 
 // The line of an answer.
-pub fn print_line(a: Answer) {
+pub fn line(a: Answer) -> Text
+    ensures { λ r. ⌜ r ≡ stored (lineOf a) ⌝ }
+{
+    let empty = Text {
+        bytes: [0u8; 32],
+        length: 0,
+    };
+    let number = wide(a.number);
+    let place = a.place;
     if a.number == answer::ACCEPTED {
-        io::write_all(STDOUT_FILENO, b"accepted ");
-    } else {
-        io::write_all(STDOUT_FILENO, b"refused ");
-        io::print_decimal(STDOUT_FILENO, wide(a.number));
-        io::write_all(STDOUT_FILENO, b" at ");
+        let word = put(empty, b"accepted ");
+        let told = put_decimal(word, place);
+        return put(told, b"\n");
     }
-    io::print_decimal(STDOUT_FILENO, a.place as u64);
-    io::write_all(STDOUT_FILENO, b"\n");
+    let word = put(empty, b"refused ");
+    let which = put_decimal(word, number);
+    let at = put(which, b" at ");
+    let told = put_decimal(at, place);
+    put(told, b"\n")
 }

@@ -1,11 +1,11 @@
--- `job::skip` is safe and ends: what is left to pass over falls.
+-- `corpus::skip` is safe and ends: what is left to pass over falls.
 -- Assumes nothing.
 use mathlib.Core.Path.{sym}
 use native.Mathlib.Omega.{arith}
 use lib.Seq.{length-take-le}
 use borrow.Author.Needs.{needs}
-use Rattle.job.proofs.skip.Statement.{statement}
-use Rattle.job.proofs.skip.Tie as tie
+use Rattle.corpus.proofs.skip.Statement.{statement}
+use Rattle.corpus.proofs.skip.Tie as tie
 
 abbrev Inv-loop : tie.InvT-loop
 Inv-loop fd count rest₀ rest = Unit {0}
