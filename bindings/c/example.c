@@ -27,6 +27,10 @@ static struct phieulakhon_answer judge(FILE *in) {
 
 int main(void) {
     struct phieulakhon_answer answer = judge(stdin);
+    if (ferror(stdin)) { /* the bytes that came are judged, but they may not be the whole file */
+        perror("standard input");
+        return 2;
+    }
     if (answer.number == PHIEULAKHON_ACCEPTED)
         printf("accepted %u\n", (unsigned)answer.place);
     else

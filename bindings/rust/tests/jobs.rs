@@ -1,4 +1,4 @@
-//! The jobs of examples/ and, once it is there, of the corpus: each gets the line that is stored
+//! The jobs of examples/ and of the corpus: each gets the line that is stored
 //! for it, whole, in random pieces, and from an input.
 
 use phieulakhon::{opening, verdict, verify_reader, Accepted, Context, Params, Reader, Refusal};
@@ -99,10 +99,7 @@ fn examples() {
 #[test]
 fn corpus() {
     let folder = repository().join("crates/corpus");
-    let Ok(jobs) = fs::read(folder.join("data/jobs")) else {
-        println!("no corpus here");
-        return;
-    };
+    let jobs = fs::read(folder.join("data/jobs")).expect("the corpus's jobs");
     let lines = fs::read_to_string(folder.join("stdout")).expect("the corpus's lines");
     let seed = &mut 2;
     let mut rest = &jobs[..];
