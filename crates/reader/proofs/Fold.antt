@@ -4,11 +4,12 @@ use Prim.Native.Nat.{ℕ, suc, _+_, _-_, _≤_, _<_}
 use native.Mathlib.Omega.{arith}
 use native.Mathlib.Numerals.{add-one}
 use mathlib.Core.Path.{_≡_, refl, sym, _∙_, ap}
+use mathlib.Core.Bool.{Bool, true, false}
 use mathlib.Core.List.{List, [], _∷_, foldl, foldl-append}
 use lib.ListN.{length, take, drop, set, take-append-drop, length-drop}
-use lib.Seq.{sets, take-add, take-all, take-take, length-take-le}
-use lib.Dec.{lit≤}
-use borrow.Author.Tests.{lt-ltb, le-ltb}
+use lib.Seq.{sets, take-length, take-add, take-all, take-take, length-take-le}
+use lib.Dec.{lit≤, ltb}
+use borrow.Author.Tests.{lt-ltb, le-ltb, ltb-true, ltb-false}
 use Rattle.message.specs.Message.{Digest}
 use Rattle.reader_model.specs.declared.Stage.{Stage}
 use Rattle.reader_model.specs.declared.Stage.the-variants.{ParameterCount, Parameters, RootCount, Root, CoefficientCount, Coefficient, QueryCount, First, Second, Sibling, Tail, Stopped}
@@ -32,6 +33,17 @@ item-fits Second = lit≤ tt
 item-fits Sibling = lit≤ tt
 item-fits Tail = lit≤ tt
 item-fits Stopped = lit≤ tt
+
+-- Whether n bytes end inside an item, told without a sum that could be too large.
+pub ends-inside-test : (fill n need : ℕ) → n < need → ltb fill (need - n) ≡ ltb (fill + n) need
+ends-inside-test fill n need h = by (ltb fill (need - n)) refl
+  where
+    by : (t : Bool) → ltb fill (need - n) ≡ t → ltb fill (need - n) ≡ ltb (fill + n) need
+    by true e = e ∙ sym (lt-ltb (fill + n) need (omega (arith, ltb-true fill (need - n) e)))
+    by false e = e ∙ sym (le-ltb (fill + n) need (omega (arith, ltb-false fill (need - n) e)))
+
+pub too-long-test : (fill n need : ℕ) → need ≤ n → false ≡ ltb (fill + n) need
+too-long-test fill n need h = sym (le-ltb (fill + n) need (omega arith))
 
 -- The state with another buffer and fill, and with a run of bytes of the current item.
 abbrev pub filled : Reader → List ℕ → ℕ → Reader
@@ -69,6 +81,14 @@ module _ (hash : List ℕ → Digest) where
   run-more r [] h = ap (λ (k : ℕ). filled r (r .core .item) k) (omega arith)
   run-more r (b ∷ bs) h =
       rw (step-more r b (omega arith)) (run-more (stored r b) bs (omega arith) ∙ run-cons r b bs)
+
+  -- A piece that ends inside the item.
+  pub fed-inside : (r : Reader) (bytes : List ℕ) {item : List ℕ} → item ≡ sets (r .core .item) (r .core .fill) (take (length bytes) bytes)
+      → r .core .fill + length bytes < itemLength (r .core .stage) → filled r item (r .core .fill + length bytes) ≡ fed hash r bytes
+  unfolding fed
+  fed-inside r bytes stores h =
+      ap (λ (l : List ℕ). filled r l (r .core .fill + length bytes)) (stores ∙ ap (sets (r .core .item) (r .core .fill)) (take-length bytes))
+      ∙ sym (run-more r bytes h)
 
   run-last : (r : Reader) (b : ℕ) (bs : List ℕ) → r .core .fill + length (b ∷ bs) ≡ itemLength (r .core .stage) → foldl (step hash) r (b ∷ bs) ≡ advanced hash (run r (b ∷ bs))
   run-last r b [] h =

@@ -6,10 +6,12 @@ mod state;
 
 ghost use mathlib.Core.Path.{_≡_};
 ghost use mathlib.Core.Bool.{cond};
-ghost use Prim.Native.Nat.{_+_, _≤_, min};
+ghost use Prim.Native.Nat.{_+_, _≤_, _<_, min};
+ghost use lib.Dec.{ltb};
 ghost use lib.ListN.{length, take};
 ghost use lib.Seq.{sets};
 ghost use Rattle.sha256.specs.Sha256.{sha256};
+ghost use Rattle.reader_model.specs.State.{itemLength};
 ghost use Rattle.reader_model.specs.Items.{advanced};
 ghost use Rattle.answer.specs.Table.{accepted, too-few-bytes};
 ghost use Rattle.reader_model.specs.Model.{isTail, fed, started, pieced, ended, opened};
@@ -131,11 +133,51 @@ fn feed(state: Reader, bytes: &[u8]) -> Reader
     }
 }
 
+// Whether a piece of n bytes ends inside the current item, so that nothing is decided.
+fn ends_inside(c: Core, n: usize) -> bool
+    ensures { λ r. ⌜ r ≡ ltb (c .fill + n) (itemLength (c .stage)) ⌝ }
+{
+    let stage = c.stage;
+    let need = state::item_length(stage);
+    if n < need { c.fill < need - n } else { false }
+}
+
+// A piece that ends inside the current item: its bytes go into the buffer, and the tables stay where they are.
+fn hold(state: Reader, bytes: &[u8]) -> Reader
+    requires { ⌜ state .core .fill + length (now bytes) < itemLength (state .core .stage) ⌝ }
+    ensures { λ r. ⌜ r ≡ fed sha256 state (now (bytes .entry)) ⌝ }
+{
+    let mut c = state.core;
+    let fill = c.fill;
+    let length = bytes.len();
+    let mut item = c.item;
+    gather(&mut item, fill, bytes, length);
+    c.item = item;
+    c.fill = fill + length;
+    let tables = state.tables;
+    Reader {
+        core: c,
+        tables: tables,
+    }
+}
+
+// The state after a piece. Small pieces are common where bytes come off the wire.
+fn next(state: Reader, bytes: &[u8]) -> Reader
+    ensures { λ r. ⌜ r ≡ fed sha256 state (now (bytes .entry)) ⌝ }
+{
+    let c = state.core;
+    if ends_inside(c, bytes.len()) {
+        hold(state, bytes)
+    } else {
+        feed(state, bytes)
+    }
+}
+
 // A piece: its answer, and the state after it.
 pub fn piece(state: Reader, bytes: &[u8]) -> Reply
     ensures { λ r. ⌜ r ≡ pieced sha256 state (now (bytes .entry)) ⌝ }
 {
-    let next = feed(state, bytes);
+    let next = next(state, bytes);
     let core = next.core;
     let answer = state::answer_of(core, answer::OPEN);
     Reply {
