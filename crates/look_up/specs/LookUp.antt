@@ -1,4 +1,4 @@
--- The look-up of one opening (document 01, "Look-up"): its answer, and the stretch of the file that it hands back. It doesn't judge.
+-- The look-up of one opening (document 01, "When the reader says no"): its answer, and the stretch of the file that it hands back. It doesn't judge.
 use Prim.Native.Nat.{ℕ}
 use mathlib.Core.Bool.{Bool, _&&_, cond}
 use mathlib.Core.List.{List, []}

@@ -1,4 +1,4 @@
-// The look-up of one opening in a whole proof (document 01, "Look-up"): the caller's own bytes are handed back, not copied. It doesn't judge.
+// The look-up of one opening in a whole proof (document 01, "When the reader says no"): the caller's own bytes are handed back, not copied. It doesn't judge.
 ghost use mathlib.Core.Path.{_≡_};
 ghost use Rattle.look_up.specs.LookUp as spec;
 use answer::Answer;
