@@ -73,8 +73,8 @@ def imports_of(text, keyword):
     return found
 
 
-def functions(path, crate, module, public_module):
-    text = bare(path.read_text())
+def functions(text, crate, module, public_module):
+    text = bare(text)
     imports = imports_of(text, "ghost ")
     owners = [(m.start(), m.group(1)) for m in re.finditer(r"^impl(?:<[^>]*>)? (\w+)", text, re.M)]
     for m in re.finditer(r'^( *)((?:pub )?)((?:extern "C" )?)fn (\w+)', text, re.M):
@@ -239,41 +239,78 @@ def check_names():
         fault(path.relative_to(ROOT), "unfinished")
 
 
+def without_contracts(text):
+    """The code alone: no comments, no imports of definitions, no contracts."""
+    text = re.sub(r"^ *ghost use [^;]*;", "", bare(text), flags=re.M)
+    while m := re.search(r"\b(?:requires|ensures) \{", text):
+        text = text[: m.start()] + text[balanced(text, m.end() - 1, "{", "}") :]
+    return text.split()
+
+
+def kinds_of(before, after):
+    """What an edit changes: code, the contract of a function that is there, definitions or proofs. `before` and `after` are path → text."""
+    kinds = set()
+    for path in before:
+        part = path.parts[0]
+        if part != "src":
+            kinds.add("definition" if part == "specs" else "proof")
+            continue
+        if without_contracts(before[path]) != without_contracts(after[path]):
+            kinds.add("code")
+        stated = [{f.name: (f.requires, f.ensures) for f in functions(text, "", "", True)} for text in (before[path], after[path])]
+        if any(stated[1].get(name) != contract for name, contract in stated[0].items()):
+            kinds.add("contract")
+    return kinds
+
+
 def check_edits(promises):
+    """crate → edit → what it changes."""
     edits = {}
     for path in sorted(ROOT.glob("crates/*/must-fail/*.edit")):
         crate = path.parts[-3]
-        edits.setdefault(crate, set()).add(path.stem)
-        target, text, old = None, "", None
+        before, after = {}, {}
+        target = old = None
         for line in path.read_text().splitlines():
-            if line.startswith("file: "):
-                target = ROOT / "crates" / crate / line[6:]
-                text = target.read_text() if target.exists() else ""
-            elif line.startswith("old: "):
-                old = line[5:]
-                if text.count(old) != 1:
-                    fault(path.relative_to(ROOT), f"its text stands {text.count(old)} times in {target.relative_to(ROOT)}: {old}")
-            elif line.startswith("new: "):
-                text = text.replace(old, line[5:])  # a later change of the same edit is made in what this one left
+            word, _, rest = line.partition(":")
+            rest = rest.removeprefix(" ")
+            if word == "file":
+                target = Path(rest)
+                whole = ROOT / "crates" / crate / target
+                before.setdefault(target, whole.read_text() if whole.exists() else "")
+                after.setdefault(target, before[target])
+            elif word == "old":
+                old = rest
+                if after[target].count(old) != 1:
+                    fault(path.relative_to(ROOT), f"its text stands {after[target].count(old)} times in {target}: {old}")
+            elif word == "new":
+                after[target] = after[target].replace(old, rest)  # a later change of the same edit is made in what this one left
         if f"`{path.stem}`" not in promises:
             fault(path.relative_to(ROOT), "not named in docs/PROMISES.md")
+        kinds = kinds_of(before, after)
+        if not kinds & {"code", "contract", "definition"}:
+            fault(path.relative_to(ROOT), "changes neither code nor a statement")
+        edits.setdefault(crate, {})[path.stem] = kinds
     return edits
 
 
 def check_wrong_programs(calls, edits, promises):
-    """PROMISES, "Two wrong programs for every call": a row for each public call."""
+    """PROMISES, "Two wrong programs for every call": a row for each public call, with two edits of the code at least that leave contracts and
+    definitions as they are. An edit may carry a walk by hand along to the code that it changes."""
     rows = dict(re.findall(r"^\| `([\w:]+)` \| (.*) \|$", promises.partition("## Two wrong programs")[2].partition("\n## ")[0], re.M))
     for call in calls:
         crate = call.name.split("::")[0]
         if crate in TESTS_ONLY:
             continue
-        named = [n for n in re.findall(r"`([\w/]+)`", rows.get(call.name, ""))]
-        if len(named) < 2:
-            fault(call.name, "has not two wrong programs in docs/PROMISES.md")
-        for n in named:
+        programs = 0
+        for n in re.findall(r"`([\w/]+)`", rows.get(call.name, "")):
             where, _, edit = n.rpartition("/")
-            if edit not in edits.get(where or crate, ()):
+            kinds = edits.get(where or crate, {}).get(edit)
+            if kinds is None:
                 fault(call.name, f"no such edit: {n}")
+            elif "code" in kinds and not kinds & {"contract", "definition"}:
+                programs += 1
+        if programs < 2:
+            fault(call.name, f"has {programs} wrong programs in docs/PROMISES.md")
     for name in rows:
         if name not in {c.name for c in calls}:
             fault("docs/PROMISES.md", f"no such public call: {name}")
@@ -311,7 +348,7 @@ def check_trust():
 def main():
     listed = "--list" in sys.argv[1:]
     fields_of = structs()
-    every = [f for crate in crates() for path, module, public in source(crate) for f in functions(path, crate, module, public)]
+    every = [f for crate in crates() for path, module, public in source(crate) for f in functions(path.read_text(), crate, module, public)]
     calls = [f for f in every if f.public]
     for call in calls:
         if listed:

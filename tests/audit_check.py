@@ -21,7 +21,10 @@ CHANGES = [
     ("crates/fold/specs/Fold.antt", "-- 2·x\n", "abbrev pub length : ℕ → ℕ\nlength x = x\n\n-- 2·x\n", "defines 'length', a name of the library"),
     ("crates/field/proofs/Laws.antt", "\npub mulMod-lt", "\naxiom pub mulMod-none : Unit\n\npub mulMod-lt", "an axiom"),
     ("crates/fold/must-fail/scale_is_the_square.edit", "old: ", "old: not there ", "its text stands 0 times"),
-    ("docs/PROMISES.md", "| `fold::scale` |", "| `fold::scales` |", "fold::scale: has not two wrong programs"),
+    ("docs/PROMISES.md", "| `fold::scale` |", "| `fold::scales` |", "fold::scale: has 0 wrong programs"),
+    ("crates/fold/must-fail/scale_is_the_square.edit", "old:     field::mul(2, x)\nnew:     field::mul(x, x)", "old: ⌜ r ≡ spec.scale x ⌝\nnew: ⌜ r ≡ x ⌝", "fold::scale: has 1 wrong programs"),
+    ("crates/fold/must-fail/scale_is_the_square.edit", "file: ", "file: specs/Fold.antt\nold: -- 2·x\nnew: -- x·2\nfile: ", "fold::scale: has 1 wrong programs"),
+    ("crates/fold/must-fail/scale_is_the_square.edit", "old:     field::mul(2, x)\nnew:     field::mul(x, x)", "old: // What the scale times\nnew: // What the scale", "changes neither code nor a statement"),
     ("docs/PROMISES.md", "FoldLaws: fold-law`", "FoldLaws: fold-low`", "fold/FoldLaws has no fold-low"),
 ]
 
