@@ -3,8 +3,8 @@
 //! program's answers to lists of calls with its own.
 
 // The comparisons need the library and are built with `--cfg linked` only;
-// without them, and in the fuzzer, some parts serve the tests alone.
-#![cfg_attr(any(not(linked), fuzz), allow(dead_code))]
+// without them, as in the fuzzer, some parts serve the tests alone.
+#![cfg_attr(not(linked), allow(dead_code))]
 
 mod answer;
 mod check;

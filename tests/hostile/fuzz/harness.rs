@@ -1,18 +1,24 @@
-//! The fuzzer's target: an input is a job or a recipe for one, and the linked
-//! library must answer it as this program does. The first byte's lowest bit
-//! says which; its others are the size of the pieces that are fed.
+//! The fuzzer's target: an input is a job or a recipe for one, and the exported
+//! calls, through the Rust binding, must answer it as this program does: the
+//! verdict, every piece, the end call and a look-up. The first byte's lowest bit
+//! says which it is; its others are the size of the pieces, and what is looked up.
 
+use std::fmt::Debug;
+use std::process::exit;
 use std::slice;
 use std::sync::Mutex;
 
-use crate::compare::Verdicts;
+use phieulakhon::{opening, verdict, Accepted, Context, Reader, Refusal};
+
+use crate::answer::{Answer, Counts, ACCEPTED, OPEN, TOO_SHORT};
 use crate::field::{add, P};
 use crate::files::same_modulo_p;
 use crate::job;
+use crate::layout::look_up;
 use crate::params::Params;
 use crate::proof::Forger;
 
-static VERDICTS: Mutex<Option<Verdicts>> = Mutex::new(None);
+static COUNTS: Mutex<Option<Counts>> = Mutex::new(None);
 
 extern "C" {
     fn atexit(call: extern "C" fn()) -> i32;
@@ -20,8 +26,8 @@ extern "C" {
 
 /// At a disagreement the target itself exits, and holds the lock.
 extern "C" fn print_counts() {
-    if let Ok(Some(verdicts)) = VERDICTS.try_lock().as_deref() {
-        eprintln!("{}", verdicts.counts);
+    if let Ok(Some(counts)) = COUNTS.try_lock().as_deref() {
+        eprintln!("{counts}");
     }
 }
 
@@ -39,13 +45,90 @@ pub extern "C" fn LLVMFuzzerTestOneInput(input: *const u8, size: usize) -> i32 {
         0 => rest.to_vec(),
         _ => follow(&mut Recipe { rest }),
     };
-    let mut verdicts = VERDICTS.lock().expect("one thread");
-    let verdicts = verdicts.get_or_insert_with(|| {
+    let mut counts = COUNTS.lock().expect("one thread");
+    let counts = counts.get_or_insert_with(|| {
         unsafe { atexit(print_counts) };
-        Verdicts::new()
+        Counts::default()
     });
-    verdicts.job(&job, first as usize >> 1, &job);
+    counts.add(compare(&job, first as usize >> 1).number);
     0
+}
+
+/// Every call on the job's proof against the one answer that this program gives.
+fn compare(job: &[u8], choice: usize) -> Answer {
+    let answer = job::answer(job);
+    let Some((params, context, proof)) = job::parts(job) else {
+        return answer;
+    };
+    let theirs = phieulakhon::Params {
+        n: params.n,
+        b: params.b,
+        k: params.k,
+        q: params.q,
+    };
+    let whole = verdict(theirs, Context(*context), proof);
+    same("the verdict", answer, ended(whole));
+    match Reader::open(theirs, Context(*context)) {
+        Err(refusal) => same("the opening", answer, refused(refusal)),
+        Ok(reader) => in_pieces(reader, proof, choice.max(1), answer),
+    }
+    let (query, layer) = (choice % 8, choice / 8);
+    let (found, part) = look_up(params, proof.len(), query, layer);
+    let theirs = match opening(theirs, proof, query, layer) {
+        Ok(part) => (Answer::DONE, part),
+        Err(refusal) => (refused(refusal), &[][..]),
+    };
+    same("the look-up", (found, &proof[part]), theirs);
+    answer
+}
+
+/// Before the byte that decides a reader is open; from it on the answer stays.
+fn in_pieces(mut reader: Reader, proof: &[u8], size: usize, answer: Answer) {
+    let decided = answer.number != ACCEPTED && answer.number != TOO_SHORT;
+    let mut fed = 0;
+    for piece in proof.chunks(size) {
+        fed += piece.len();
+        let expected = match decided && answer.place as usize <= fed {
+            true => answer,
+            false => Answer::new(OPEN, fed),
+        };
+        let theirs = match reader.feed(piece) {
+            Ok(place) => Answer {
+                number: OPEN,
+                place,
+            },
+            Err(refusal) => refused(refusal),
+        };
+        same("a piece", expected, theirs);
+    }
+    same("the end call", answer, ended(reader.finish()));
+}
+
+fn ended(result: Result<Accepted, Refusal>) -> Answer {
+    match result {
+        Ok(accepted) => Answer {
+            number: ACCEPTED,
+            place: accepted.length(),
+        },
+        Err(refusal) => refused(refusal),
+    }
+}
+
+fn refused(refusal: Refusal) -> Answer {
+    Answer {
+        number: refusal.number(),
+        place: refusal.place(),
+    }
+}
+
+/// Ends the run at the first disagreement; the fuzzer then writes its input.
+fn same<T: PartialEq + Debug>(call: &str, ours: T, theirs: T) {
+    if ours != theirs {
+        eprintln!("{call}: disagreement");
+        eprintln!("  independent program: {ours:?}");
+        eprintln!("  exported call:       {theirs:?}");
+        exit(1);
+    }
 }
 
 /// The bytes that choose; when there are no more, zeros.
