@@ -253,11 +253,18 @@ fn folds(table: &mut Table, rng: &mut Rng) {
     );
 }
 
+type Verdict = unsafe extern "C" fn(Params, &Digest, *const u8, usize, usize) -> Answer;
+
 /// The ordinary verifier has the whole slice; ours is fed in pieces of `size` bytes.
-fn verdict_batch(params: Params, context: Digest, file: Vec<u8>, size: usize) -> Batch {
-    type Call = unsafe extern "C" fn(Params, &Digest, *const u8, usize, usize) -> Answer;
-    let sides = Sides::<Call> {
-        ours: ours::test_verdict_in_pieces,
+fn verdict_batch(
+    ours: Verdict,
+    params: Params,
+    context: Digest,
+    file: Vec<u8>,
+    size: usize,
+) -> Batch {
+    let sides = Sides::<Verdict> {
+        ours,
         peer: peers::verdict,
     };
     Batch::each(
@@ -301,6 +308,7 @@ fn hashing_batch(params: Params) -> Batch {
 /// and what the largest takes beside its hashing.
 fn verdicts(table: &mut Table, rng: &mut Rng) {
     const WHOLE: usize = usize::MAX;
+    let ours = ours::test_verdict_in_pieces;
     let sizes = [
         [6, 2, 2, 8],
         [10, 2, 4, 16],
@@ -317,16 +325,20 @@ fn verdicts(table: &mut Table, rng: &mut Rng) {
         // Most of a large proof's time is building it, so its polynomial is short.
         let file = proof::build(params, &context, &rng.elements(3));
         let name = format!("verdict {n},{b},{k},{q} ({} bytes) in one piece", file.len());
-        let batch = verdict_batch(params, context, file.clone(), WHOLE);
+        let batch = verdict_batch(ours, params, context, file.clone(), WHOLE);
         table.growing(name, file.len(), batch);
         largest = Some((params, context, file));
     }
     let (params, context, file) = largest.expect("there are sizes");
-    for (size, cut) in [(4096, "4,096 bytes"), (64, "64 bytes"), (1, "one byte")] {
-        let batch = verdict_batch(params, context, file.clone(), size);
-        table.row(format!("the last, in pieces of {cut}"), batch);
+    let cuts = [(4096, "4,096 bytes"), (64, "64 bytes"), (1, "one byte")];
+    let binding = ours::binding_in_pieces;
+    for (call, way) in [(ours as Verdict, ""), (binding, " through the binding")] {
+        for (size, cut) in cuts {
+            let batch = verdict_batch(call, params, context, file.clone(), size);
+            table.row(format!("the last{way}, in pieces of {cut}"), batch);
+        }
     }
-    let verdict = || verdict_batch(params, context, file.clone(), WHOLE);
+    let verdict = || verdict_batch(ours, params, context, file.clone(), WHOLE);
     let hashing = || hashing_batch(params);
     table.overhead("the last, over its hashing alone", verdict(), hashing());
     table.rest("the last, a byte read, without its hashing", file.len(), verdict(), hashing());

@@ -1,7 +1,11 @@
 //! The linked library's calls, as they are timed. A slice is a pointer and a
 //! length there, and an array of fixed size is a pointer.
 
-use peers::answer::Answer;
+use std::slice;
+
+use phieulakhon::{Accepted, Context, Reader, Refusal};
+
+use peers::answer::{Answer, ACCEPTED};
 use peers::params::Params;
 use peers::sha256::Digest;
 use peers::Coefficients;
@@ -30,4 +34,37 @@ unsafe extern "C" {
         len: usize,
         size: usize,
     ) -> Answer;
+}
+
+/// The same as users have it: the exported calls, through the Rust binding.
+///
+/// # Safety
+/// The proof must be readable for `len` bytes.
+pub unsafe extern "C" fn binding_in_pieces(
+    params: Params,
+    context: &Digest,
+    proof: *const u8,
+    len: usize,
+    size: usize,
+) -> Answer {
+    let proof = unsafe { slice::from_raw_parts(proof, len) };
+    match fed(params, *context, proof, size) {
+        Ok(accepted) => Answer {
+            number: ACCEPTED,
+            place: accepted.length(),
+        },
+        Err(refusal) => Answer {
+            number: refusal.number(),
+            place: refusal.place(),
+        },
+    }
+}
+
+fn fed(params: Params, context: Digest, proof: &[u8], size: usize) -> Result<Accepted, Refusal> {
+    let Params { n, b, k, q } = params;
+    let mut reader = Reader::open(phieulakhon::Params { n, b, k, q }, Context(context))?;
+    for piece in proof.chunks(size) {
+        reader.feed(piece)?;
+    }
+    reader.finish()
 }

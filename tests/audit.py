@@ -20,6 +20,7 @@ ROOT = Path(__file__).resolve().parent.parent
 LIBRARY = {"mathlib", "Prim", "native", "lib", "borrow"}
 LANGUAGE = set("λ . , ( ) { } ⌜ ⌝ × → :".split())  # the contract language's own signs
 WORDS = {"now", "entry", "exit", "tt"}  # its own words: a reference's value, at the call and at the return
+ASSEMBLES = {"replied", "outcome"}  # records made of their arguments: an equation of one pins every argument
 OUTSIDE = {"job::judge"}  # its result hangs on what a descriptor gives: the contract states what all correct ones have in common
 TESTS_ONLY = {"test_exports"}  # passes calls on to the comparisons; no interface for users
 
@@ -174,9 +175,13 @@ def check_tight(call, fields_of):
                 fault(call.name, f"the right side speaks of the result: {fact}")
             for lent, field in re.findall(r"now \((\w+) \.exit\)(?: \.(\w+))?", left):
                 pinned.add(f"{lent}.{field}" if field else lent)
-            m2 = re.fullmatch(rf"(?:now )?\(?{r}(?: \.(\w+))?\)?", left)
-            if m2:
-                pinned.add("result" if not m2.group(1) else "." + m2.group(1))
+            parts = [left]
+            if left.split(" ")[0] in ASSEMBLES:
+                parts = re.findall(rf"(?<= ){r}(?= )|\({r} \.\w+\)", left)
+            for part in parts:
+                m2 = re.fullmatch(rf"(?:now )?\(?{r}(?: \.(\w+))?\)?", part)
+                if m2:
+                    pinned.add("result" if not m2.group(1) else "." + m2.group(1))
     if call.result and "result" not in pinned:
         kind = call.result.split("::")[-1].split("<")[0]
         missing = fields_of.get(kind, {"result"}) - {f[1:] for f in pinned if f.startswith(".")}
@@ -338,7 +343,12 @@ def check_papers():
 
 def check_trust():
     """docs/TRUST.md counts the lines of the definitions that a reader has to believe."""
-    for name, lines in re.findall(r"^\| `(crates/[^`]+)` \| (\d+) \|", (ROOT / "docs" / "TRUST.md").read_text(), re.M):
+    text = (ROOT / "docs" / "TRUST.md").read_text()
+    rows = re.findall(r"^\| `(crates/[^`]+)` \| (\d+) \|", text, re.M)
+    total = sum(int(lines) for _, lines in rows)
+    if f"{total:,} lines" not in text:
+        fault("docs/TRUST.md", f"the files have {total:,} lines together")
+    for name, lines in rows:
         path = ROOT / name
         count = len(path.read_text().splitlines()) if path.exists() else None
         if count != int(lines):

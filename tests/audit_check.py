@@ -18,6 +18,8 @@ CHANGES = [
     ("crates/fold/src/lib.rt", "ghost use mathlib.Core.Path.{_≡_};", "", "'≡' comes from nowhere"),
     ("crates/test_exports/src/leaves.rt", "    ensures { λ _. ⌜ now (out .exit) ≡ hashed (now (message .entry)) .digest ⌝ }\n", "", "does not pin what is left in out"),
     ("crates/transcript/src/lib.rt", "    pub state: [u8; 32],\n", "    pub state: [u8; 32],\n    pub count: u32,\n", "does not pin count of Transcript"),
+    ("crates/reader/src/lib.rt", "replied (r .answer) (r .core) (now (roots .exit))", "replied (r .answer) (r .core) (now (roots .entry))", "reader::piece_in_place: the contract does not pin what is left in roots"),
+    ("crates/reader/src/lib.rt", "replied (r .answer) (r .core)", "replied (r .answer) core", "reader::piece_in_place: the contract does not pin core of Progress"),
     ("crates/fold/specs/Fold.antt", "-- 2·x\n", "abbrev pub length : ℕ → ℕ\nlength x = x\n\n-- 2·x\n", "defines 'length', a name of the library"),
     ("crates/field/proofs/Laws.antt", "\npub mulMod-lt", "\naxiom pub mulMod-none : Unit\n\npub mulMod-lt", "an axiom"),
     ("crates/fold/must-fail/scale_is_the_square.edit", "old: ", "old: not there ", "its text stands 0 times"),

@@ -17,12 +17,13 @@ static struct phieulakhon_answer judge(FILE *in) {
         return (struct phieulakhon_answer){JOB_TOO_SHORT, (uint32_t)got};
     struct phieulakhon_params p = {head[0], head[1], head[2], head[3]};
 
-    struct phieulakhon_turn turn = phieulakhon_open(p, head + 4);
-    if (turn.answer.number != PHIEULAKHON_OPEN)
-        return turn.answer;
-    while (turn.answer.number == PHIEULAKHON_OPEN && (got = fread(chunk, 1, sizeof chunk, in)) > 0)
-        turn = phieulakhon_piece(turn.state, chunk, got);
-    return phieulakhon_end(turn.state).answer;
+    struct phieulakhon_reader reader;
+    struct phieulakhon_answer answer = phieulakhon_reader_open(&reader, p, head + 4);
+    if (answer.number != PHIEULAKHON_OPEN)
+        return answer;
+    while (answer.number == PHIEULAKHON_OPEN && (got = fread(chunk, 1, sizeof chunk, in)) > 0)
+        answer = phieulakhon_reader_feed(&reader, chunk, got);
+    return phieulakhon_reader_end(&reader);
 }
 
 int main(void) {

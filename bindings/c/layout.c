@@ -6,8 +6,8 @@
 #define ROW(type, field) printf(".%s %zu\n", #field, offsetof(struct phieulakhon_##type, field))
 
 int main(void) {
-    printf("%zu %zu %zu %zu %zu\n", sizeof(struct phieulakhon_params), sizeof(struct phieulakhon_answer), sizeof(struct phieulakhon_state),
-           sizeof(struct phieulakhon_turn), sizeof(struct phieulakhon_span));
+    printf("%zu %zu %zu %zu %zu %zu\n", sizeof(struct phieulakhon_params), sizeof(struct phieulakhon_answer), sizeof(struct phieulakhon_state),
+           sizeof(struct phieulakhon_turn), sizeof(struct phieulakhon_span), sizeof(struct phieulakhon_reader));
     ROW(params, n);
     ROW(params, b);
     ROW(params, k);
@@ -37,8 +37,9 @@ int main(void) {
     ROW(state, walk.folded);
     ROW(state, walk.node);
     ROW(state, transcript);
-    ROW(state, tables.roots);
-    ROW(state, tables.challenges);
-    ROW(state, tables.coefficients);
+    ROW(reader, state);
+    ROW(reader, roots);
+    ROW(reader, challenges);
+    ROW(reader, coefficients);
     return 0;
 }

@@ -9,8 +9,9 @@
  * - a context is 32 bytes that can be read, and `bytes` or `proof` as many as the length beside it says;
  * - nobody writes these bytes before the call returns: another thread, or, where they are a mapped file, whoever may write to that file or cut it;
  * - where a length is 0 nothing is read; pass a pointer that is not null there too, as the type of the proved call asks;
- * - a state is one that a call of this header returned, and every call gets the state that the call before it left. A call with any other state,
- *   one of random bytes too, is safe and returns, but its answer says nothing about any file.
+ * - a reader is memory that can be written, that no other thread touches during a call, and that does not overlap the bytes that are read;
+ * - a reader was opened, and nobody but the calls of this header writes it. A call on any other, one of random bytes too, is safe and returns, but
+ *   its answer says nothing about any file.
  */
 #ifndef PHIEULAKHON_H
 #define PHIEULAKHON_H
@@ -55,7 +56,7 @@ struct phieulakhon_params {
     uint8_t n, b, k, q;
 };
 
-/* A reader's state, plain data that the caller keeps. Its fields are for the calls only. A state of zeros answers 0 at 0 to every call. */
+/* The small part of a reader, plain data. Its fields are for the calls only. */
 struct phieulakhon_state {
     uint8_t stage;
     struct phieulakhon_answer answer;
@@ -72,17 +73,20 @@ struct phieulakhon_state {
         uint8_t node[32];
     } walk;
     uint8_t transcript[32];
-    struct {
-        uint8_t roots[512];
-        uint32_t challenges[16];
-        uint32_t coefficients[64];
-    } tables;
 };
 
-/* What a call of a reader gives: its answer, and the state for the next call. */
+/* What a call on a reader's parts gives: its answer, and the small part for the next call. */
 struct phieulakhon_turn {
     struct phieulakhon_answer answer;
     struct phieulakhon_state state;
+};
+
+/* A reader, about 1 KiB that the caller keeps wherever it likes. Its fields are for the calls only. A reader of zeros answers 0 at 0 to every call. */
+struct phieulakhon_reader {
+    struct phieulakhon_state state;
+    uint8_t roots[512];
+    uint32_t challenges[16];
+    uint32_t coefficients[64];
 };
 
 /* Where a look-up found an opening: its answer, and the part of the proof. */
@@ -98,15 +102,35 @@ struct phieulakhon_answer phieulakhon_verdict(struct phieulakhon_params p, const
 /* The length of every file that can be accepted with these parameters; 0 where they are not valid. */
 size_t phieulakhon_file_length(struct phieulakhon_params p);
 
-/* Opens a reader: 0 at 0, or 10 at 0 where the parameters are not valid, and then the reader is closed. */
-struct phieulakhon_turn phieulakhon_open(struct phieulakhon_params p, const uint8_t context[32]);
+/* The proved calls of a reader, on its parts: the small part goes in and comes back by value, the tables are changed in place. The three calls below
+ * them put the parts together, and are all that a C program needs. */
+struct phieulakhon_turn phieulakhon_open(struct phieulakhon_params p, const uint8_t context[32], uint8_t roots[512], uint32_t challenges[16],
+                                         uint32_t coefficients[64]);
+struct phieulakhon_turn phieulakhon_piece(struct phieulakhon_state s, uint8_t roots[512], uint32_t challenges[16], uint32_t coefficients[64],
+                                          const uint8_t *bytes, size_t length);
+struct phieulakhon_turn phieulakhon_end(struct phieulakhon_state s, uint8_t roots[512], uint32_t challenges[16], uint32_t coefficients[64]);
+
+/* Opens a reader, whatever was in its memory: 0 at 0, or 10 at 0 where the parameters are not valid, and then the reader is closed. */
+static inline struct phieulakhon_answer phieulakhon_reader_open(struct phieulakhon_reader *r, struct phieulakhon_params p, const uint8_t context[32]) {
+    struct phieulakhon_turn turn = phieulakhon_open(p, context, r->roots, r->challenges, r->coefficients);
+    r->state = turn.state;
+    return turn.answer;
+}
 
 /* Feeds the next bytes of the file, as many as there are at hand: 0 at the bytes so far, or the refusal. A refused reader stays refused, with the
  * same answer to every later piece and to the end call, so that a caller may stop at the first number other than 0. */
-struct phieulakhon_turn phieulakhon_piece(struct phieulakhon_state s, const uint8_t *bytes, size_t length);
+static inline struct phieulakhon_answer phieulakhon_reader_feed(struct phieulakhon_reader *r, const uint8_t *bytes, size_t length) {
+    struct phieulakhon_turn turn = phieulakhon_piece(r->state, r->roots, r->challenges, r->coefficients, bytes, length);
+    r->state = turn.state;
+    return turn.answer;
+}
 
-/* Ends the file: 1 at its length, or the refusal. It leaves the closed state, which answers 11 at 0 to every call. */
-struct phieulakhon_turn phieulakhon_end(struct phieulakhon_state s);
+/* Ends the file: 1 at its length, or the refusal. It leaves the closed reader, which answers 11 at 0 to every call. */
+static inline struct phieulakhon_answer phieulakhon_reader_end(struct phieulakhon_reader *r) {
+    struct phieulakhon_turn turn = phieulakhon_end(r->state, r->roots, r->challenges, r->coefficients);
+    r->state = turn.state;
+    return turn.answer;
+}
 
 /* Where the opening of a query in a layer, two values and the siblings, stands in a proof of that length: 0 at 0 and `length` bytes from `start` on;
  * 10, or 16 where the length is not that of a whole file or there is no such query or layer, at 0 with an empty part. It doesn't judge the proof. */

@@ -1,8 +1,8 @@
 //! The exported calls behind safe functions: the crate's only unsafe code. The structs are those of
 //! bindings/c/phieulakhon.h, field by field.
 //!
-//! Each call's contract has no `requires`, so every state is an argument that it takes; it reads
-//! the bytes lent to it, writes none, and keeps nothing.
+//! Each call's contract has no `requires`, so every state is an argument that it takes. It reads
+//! the bytes lent to it, writes nothing but the tables, and keeps nothing.
 #![allow(unsafe_code)]
 
 use crate::Params;
@@ -37,15 +37,7 @@ struct Walk {
 
 #[repr(C)]
 #[derive(Clone, Copy)]
-struct Tables {
-    roots: [u8; 512],
-    challenges: [u32; 16],
-    coefficients: [u32; 64],
-}
-
-#[repr(C)]
-#[derive(Clone, Copy)]
-pub struct State {
+struct State {
     stage: u8,
     answer: Answer,
     fill: usize,
@@ -54,13 +46,23 @@ pub struct State {
     cursor: Cursor,
     walk: Walk,
     transcript: [u8; 32],
-    tables: Tables,
 }
 
 #[repr(C)]
-pub struct Turn {
-    pub answer: Answer,
-    pub state: State,
+struct Turn {
+    answer: Answer,
+    state: State,
+}
+
+/// A reader between two calls: the state goes to each call by value and comes back from it, the
+/// tables are lent to it and changed in place.
+#[repr(C)]
+#[derive(Clone)]
+pub struct Held {
+    state: State,
+    roots: [u8; 512],
+    challenges: [u32; 16],
+    coefficients: [u32; 64],
 }
 
 #[repr(C)]
@@ -79,9 +81,27 @@ extern "C" {
         length: usize,
     ) -> Answer;
     fn phieulakhon_file_length(p: Params) -> usize;
-    fn phieulakhon_open(p: Params, context: *const [u8; 32]) -> Turn;
-    fn phieulakhon_piece(s: State, bytes: *const u8, length: usize) -> Turn;
-    fn phieulakhon_end(s: State) -> Turn;
+    fn phieulakhon_open(
+        p: Params,
+        context: *const [u8; 32],
+        roots: *mut [u8; 512],
+        challenges: *mut [u32; 16],
+        coefficients: *mut [u32; 64],
+    ) -> Turn;
+    fn phieulakhon_piece(
+        s: State,
+        roots: *mut [u8; 512],
+        challenges: *mut [u32; 16],
+        coefficients: *mut [u32; 64],
+        bytes: *const u8,
+        length: usize,
+    ) -> Turn;
+    fn phieulakhon_end(
+        s: State,
+        roots: *mut [u8; 512],
+        challenges: *mut [u32; 16],
+        coefficients: *mut [u32; 64],
+    ) -> Turn;
     fn phieulakhon_look_up(p: Params, length: usize, query: usize, layer: usize) -> Span;
 }
 
@@ -96,20 +116,49 @@ pub fn file_length(p: Params) -> usize {
     unsafe { phieulakhon_file_length(p) }
 }
 
-pub fn open(p: Params, context: &[u8; 32]) -> Turn {
-    // SAFETY: the callee reads the 32 bytes that are lent to it.
-    unsafe { phieulakhon_open(p, context) }
+pub fn open(p: Params, context: &[u8; 32]) -> (Answer, Held) {
+    let (mut roots, mut challenges, mut coefficients) = ([0; 512], [0; 16], [0; 64]);
+    // SAFETY: the callee reads the 32 bytes and writes the tables that are lent to it.
+    let turn =
+        unsafe { phieulakhon_open(p, context, &mut roots, &mut challenges, &mut coefficients) };
+    let held = Held {
+        state: turn.state,
+        roots,
+        challenges,
+        coefficients,
+    };
+    (turn.answer, held)
 }
 
-pub fn piece(s: &State, bytes: &[u8]) -> Turn {
-    // SAFETY: the state is plain numbers, by value. The callee reads the `bytes.len()` bytes that
-    // are lent to it.
-    unsafe { phieulakhon_piece(*s, bytes.as_ptr(), bytes.len()) }
+pub fn piece(held: &mut Held, bytes: &[u8]) -> Answer {
+    // SAFETY: the state is plain numbers, by value. The callee reads the `bytes.len()` bytes and
+    // reads and writes the tables that are lent to it; nobody else can reach them meanwhile.
+    let turn = unsafe {
+        phieulakhon_piece(
+            held.state,
+            &mut held.roots,
+            &mut held.challenges,
+            &mut held.coefficients,
+            bytes.as_ptr(),
+            bytes.len(),
+        )
+    };
+    held.state = turn.state;
+    turn.answer
 }
 
-pub fn end(s: &State) -> Turn {
-    // SAFETY: the state is plain numbers, by value.
-    unsafe { phieulakhon_end(*s) }
+pub fn end(held: &mut Held) -> Answer {
+    // SAFETY: as for a piece.
+    let turn = unsafe {
+        phieulakhon_end(
+            held.state,
+            &mut held.roots,
+            &mut held.challenges,
+            &mut held.coefficients,
+        )
+    };
+    held.state = turn.state;
+    turn.answer
 }
 
 pub fn look_up(p: Params, length: usize, query: usize, layer: usize) -> Span {
@@ -125,10 +174,10 @@ mod tests {
     use std::path::Path;
     use std::process::Command;
 
-    type Image = [u8; size_of::<State>()];
+    type Image = [u8; size_of::<Held>()];
 
-    fn state(image: Image) -> State {
-        // SAFETY: every field is a number, so all bytes are a state.
+    fn held(image: Image) -> Held {
+        // SAFETY: every field is a number, so all bytes are what a caller could hold.
         unsafe { std::mem::transmute(image) }
     }
 
@@ -139,12 +188,12 @@ mod tests {
         *seed >> 33
     }
 
-    fn all_calls_return(s: &State, bytes: &[u8]) {
-        let turn = piece(s, bytes);
-        let turn = piece(&turn.state, &[]);
-        let end = end(&turn.state);
+    fn all_calls_return(mut h: Held, bytes: &[u8]) {
+        piece(&mut h, bytes);
+        piece(&mut h, &[]);
+        end(&mut h);
         assert_eq!(
-            piece(&end.state, bytes).answer,
+            piece(&mut h, bytes),
             Answer {
                 number: 11,
                 place: 0
@@ -157,8 +206,9 @@ mod tests {
         let seed = &mut 1;
         let bytes: Vec<u8> = (0..2000).map(|_| random(seed) as u8).collect();
         for turn in 0..30_000 {
-            let mut s = state(std::array::from_fn(|_| random(seed) as u8));
+            let mut h = held(std::array::from_fn(|_| random(seed) as u8));
             if turn % 3 > 0 {
+                let s = &mut h.state;
                 // A stage that there is, and numbers near the bounds of a state that a call leaves.
                 s.stage = (random(seed) % 13) as u8;
                 s.fill = (random(seed) % 34) as usize;
@@ -172,22 +222,22 @@ mod tests {
                 s.cursor.layer %= 17;
                 s.cursor.height %= 33;
             }
-            all_calls_return(&s, &bytes[..random(seed) as usize % 200]);
+            all_calls_return(h, &bytes[..random(seed) as usize % 200]);
         }
     }
 
     #[test]
     fn a_state_of_zeros_is_never_accepted() {
-        let zeros = state([0; size_of::<State>()]);
+        let mut zeros = held([0; size_of::<Held>()]);
         assert_eq!(
-            piece(&zeros, &[4, 0]).answer,
+            piece(&mut zeros, &[4, 0]),
             Answer {
                 number: 0,
                 place: 0
             }
         );
         assert_eq!(
-            end(&zeros).answer,
+            end(&mut zeros),
             Answer {
                 number: 0,
                 place: 0
@@ -244,6 +294,7 @@ mod tests {
             size_of::<State>(),
             size_of::<Turn>(),
             size_of::<Span>(),
+            size_of::<Held>(),
         ];
         let sizes = sizes.map(|size| size.to_string());
         writeln!(ours, "{}", sizes.join(" ")).unwrap();
@@ -255,7 +306,8 @@ mod tests {
             State: stage, answer, fill, item, params;
             State: cursor.start, cursor.coefficient, cursor.query, cursor.layer, cursor.height;
             State: walk.index, walk.position, walk.first, walk.scale, walk.folded, walk.node;
-            State: transcript, tables.roots, tables.challenges, tables.coefficients;
+            State: transcript;
+            Held: state, roots, challenges, coefficients;
         }
         assert_eq!(ours, String::from_utf8(said).unwrap());
     }

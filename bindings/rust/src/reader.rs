@@ -20,7 +20,7 @@ use std::io::{self, ErrorKind, Read};
 #[must_use = "a reader judges nothing until it is fed and finished"]
 #[derive(Clone)]
 pub struct Reader {
-    state: ffi::State,
+    held: ffi::Held,
 }
 
 impl Reader {
@@ -33,21 +33,19 @@ impl Reader {
     /// assert_eq!(refused.err(), Some(Refusal::ParametersNotValid));
     /// ```
     pub fn open(params: Params, context: Context) -> Result<Reader, Refusal> {
-        let turn = ffi::open(params, &context.0);
-        so_far(turn.answer).map(|_| Reader { state: turn.state })
+        let (answer, held) = ffi::open(params, &context.0);
+        so_far(answer).map(|_| Reader { held })
     }
 
     /// Feeds the next bytes of the file, and gives the count of bytes so far. A refused reader
     /// stays refused, with the same refusal from every later call.
     pub fn feed(&mut self, bytes: &[u8]) -> Result<u32, Refusal> {
-        let turn = ffi::piece(&self.state, bytes);
-        self.state = turn.state;
-        so_far(turn.answer)
+        so_far(ffi::piece(&mut self.held, bytes))
     }
 
     /// Ends the file.
-    pub fn finish(self) -> Result<Accepted, Refusal> {
-        ended(ffi::end(&self.state).answer)
+    pub fn finish(mut self) -> Result<Accepted, Refusal> {
+        ended(ffi::end(&mut self.held))
     }
 }
 

@@ -3,17 +3,26 @@ use Prim.Native.Nat.{ℕ}
 use mathlib.Core.List.{List}
 use mathlib.Core.Path.{_≡_, ap, _∙_}
 use Rattle.sha256.specs.Sha256.{sha256}
-use Rattle.reader_model.specs.declared.Reader.{Reader}
+use Rattle.answer.specs.declared.Answer.{Answer}
+use Rattle.reader_model.specs.declared.Core.{Core}
 use Rattle.reader_model.specs.declared.Reply.{Reply}
-use Rattle.reader_model.specs.Model.{pieced, ended}
+use Rattle.reader_model.specs.State.{whole}
+use Rattle.reader_model.specs.Model.{replied, pieced, ended}
 use Rattle.exports.specs.declared.state.Turn.{Turn}
-use Rattle.exports.specs.Boundary.{turnOf}
+use Rattle.exports.specs.Boundary.{Outcome, turnOf, heldOf, outcome, outcomeOf}
 
-pub turned : {t : Turn} {y z : Reply} → t ≡ turnOf y → y ≡ z → t ≡ turnOf z
-turned e f = e ∙ ap turnOf f
+-- The outcome of a reply's parts is the reply's.
+pub outcome-by : {t : Turn} {a : Answer} {c : Core} {y : Reply} (roots challenges coefficients : List ℕ) → t ≡ turnOf a c → replied a c roots challenges coefficients ≡ y
+    → outcome t roots challenges coefficients ≡ outcomeOf y
+unfolding outcomeOf heldOf turnOf
+outcome-by roots challenges coefficients e f = ap (λ (u : Turn). outcome u roots challenges coefficients) e ∙ ap outcomeOf f
 
-pub pieced-from : {y : Reply} {r x : Reader} (bytes : List ℕ) → y ≡ pieced sha256 r bytes → r ≡ x → y ≡ pieced sha256 x bytes
-pieced-from bytes e f = e ∙ ap (λ r. pieced sha256 r bytes) f
+pub outcome-of : {x : Outcome} {y z : Reply} → x ≡ outcomeOf y → y ≡ z → x ≡ outcomeOf z
+outcome-of e f = e ∙ ap outcomeOf f
 
-pub ended-from : {y : Reply} {r x : Reader} → y ≡ ended r → r ≡ x → y ≡ ended x
-ended-from e f = e ∙ ap ended f
+module _ {k l : Core} (roots challenges coefficients : List ℕ) (same : k ≡ l) where
+  pub pieced-from : {y : Reply} (bytes : List ℕ) → y ≡ pieced sha256 (whole k roots challenges coefficients) bytes → y ≡ pieced sha256 (whole l roots challenges coefficients) bytes
+  pieced-from bytes e = e ∙ ap (λ c. pieced sha256 (whole c roots challenges coefficients) bytes) same
+
+  pub ended-from : {y : Reply} → y ≡ ended (whole k roots challenges coefficients) → y ≡ ended (whole l roots challenges coefficients)
+  ended-from e = e ∙ ap (λ c. ended (whole c roots challenges coefficients)) same

@@ -15,8 +15,7 @@ use Rattle.reader_model.specs.declared.Reader.{Reader}
 use Rattle.reader_model.specs.Model.{opened, pieced, ended}
 use Rattle.reader_model.specs.Claim.{reader}
 use Rattle.reader_model.proofs.Theorem.{claim}
-use Rattle.exports.specs.declared.state.State.{State}
-use Rattle.exports.specs.Boundary.{numberOf, stageOf, stateOf, readerOf, turnOf, boundary}
+use Rattle.exports.specs.Boundary.{Held, numberOf, stageOf, stateOf, coreOf, readerOf, heldOf, outcomeOf, boundary}
 
 -- A reader's state survives the way out and back, in all its fields.
 stage-round : (stage : Stage) → stageOf (numberOf stage) ≡ stage
@@ -34,32 +33,32 @@ stage-round Sibling = refl
 stage-round Tail = refl
 stage-round Stopped = refl
 
-pub round-trip : (r : Reader) → readerOf (stateOf r) ≡ r
-unfolding readerOf stateOf
+pub round-trip : (r : Reader) → readerOf (heldOf r) ≡ r
+unfolding coreOf heldOf stateOf
 round-trip r = rw (stage-round (r .core .stage))
 
 module _ (hash : List ℕ → Digest) (p : Params) (context : List ℕ) where
-  after : (x : Reader) (cs : List Call) → answers (boundary hash p context) (stateOf x) cs ≡ answers (reader hash p context) (readerOf (stateOf x)) cs
-      → answers (boundary hash p context) (stateOf x) cs ≡ answers (reader hash p context) x cs
+  after : (x : Reader) (cs : List Call) → answers (boundary hash p context) (heldOf x) cs ≡ answers (reader hash p context) (readerOf (heldOf x)) cs
+      → answers (boundary hash p context) (heldOf x) cs ≡ answers (reader hash p context) x cs
   after x cs e = e ∙ ap (λ r. answers (reader hash p context) r cs) (round-trip x)
 
   -- From any state on, one that no call made too, the answers are the reader's from the state that it stands for.
-  pub from-any-state : (s : State) (cs : List Call) → answers (boundary hash p context) s cs ≡ answers (reader hash p context) (readerOf s) cs
-  unfolding turnOf
-  from-any-state s [] = refl
-  from-any-state s (piece bytes ∷ cs) =
-      let reply = pieced hash (readerOf s) bytes in
-      ap (λ more. reply .answer ∷ more) (after (reply .state) cs (from-any-state (stateOf (reply .state)) cs))
-  from-any-state s (end ∷ cs) =
-      let reply = ended (readerOf s) in
-      ap (λ more. reply .answer ∷ more) (after (reply .state) cs (from-any-state (stateOf (reply .state)) cs))
+  pub from-any-state : (h : Held) (cs : List Call) → answers (boundary hash p context) h cs ≡ answers (reader hash p context) (readerOf h) cs
+  unfolding outcomeOf
+  from-any-state h [] = refl
+  from-any-state h (piece bytes ∷ cs) =
+      let reply = pieced hash (readerOf h) bytes in
+      ap (λ more. reply .answer ∷ more) (after (reply .state) cs (from-any-state (heldOf (reply .state)) cs))
+  from-any-state h (end ∷ cs) =
+      let reply = ended (readerOf h) in
+      ap (λ more. reply .answer ∷ more) (after (reply .state) cs (from-any-state (heldOf (reply .state)) cs))
 
   -- From the state that the opening left on.
   pub through-the-boundary : (cs : List Call) → given (boundary hash p context) cs ≡ given (reader hash p context) cs
-  unfolding turnOf
+  unfolding outcomeOf
   through-the-boundary cs =
       let first = opened hash p context .state in
-      after first cs (from-any-state (stateOf first) cs)
+      after first cs (from-any-state (heldOf first) cs)
 
   -- So the last answer, to an end call, is the verdict on the bytes joined.
   pub verdict-through : Valid p → (cs : List Call) → endsOnce cs ≡ true → lastGiven (boundary hash p context) cs ≡ verdict hash p context (joined cs)

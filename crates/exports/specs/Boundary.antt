@@ -5,10 +5,13 @@ use mathlib.Core.Bool.{cond}
 use mathlib.Core.List.{List}
 use lib.Dec.{eqb}
 use Rattle.message.specs.Message.{Digest}
+use Rattle.answer.specs.declared.Answer.{Answer}
 use Rattle.params.specs.declared.Params.{Params}
 use Rattle.calls.specs.Calls.{Reader as Calls}
 use Rattle.reader_model.specs.declared.Stage.{Stage}
 use Rattle.reader_model.specs.declared.Stage.the-variants.{ParameterCount, Parameters, RootCount, Root, CoefficientCount, Coefficient, QueryCount, First, Second, Sibling, Tail, Stopped}
+use Rattle.reader_model.specs.declared.Core.{Core}
+use Rattle.reader_model.specs.declared.Tables.{Tables}
 use Rattle.reader_model.specs.declared.Reader.{Reader}
 use Rattle.reader_model.specs.declared.Reply.{Reply}
 use Rattle.reader_model.specs.Model.{opened, pieced, ended}
@@ -43,43 +46,65 @@ stageOf number =
     (cond (eqb number 10) Sibling
     (cond (eqb number 11) Tail Stopped))))))))))
 
-unfoldable pub stateOf : Reader → State
-stateOf r = record {
-  stage = numberOf (r .core .stage);
-  answer = r .core .answer;
-  fill = r .core .fill;
-  item = r .core .item;
-  params = r .core .params;
-  cursor = r .core .cursor;
-  walk = r .core .walk;
-  transcript = r .core .transcript;
-  tables = r .tables;
+unfoldable pub stateOf : Core → State
+stateOf c = record {
+  stage = numberOf (c .stage);
+  answer = c .answer;
+  fill = c .fill;
+  item = c .item;
+  params = c .params;
+  cursor = c .cursor;
+  walk = c .walk;
+  transcript = c .transcript;
 }
 
-unfoldable pub readerOf : State → Reader
-readerOf s = record {
-  core = record {
-    stage = stageOf (s .stage);
-    answer = s .answer;
-    fill = s .fill;
-    item = s .item;
-    params = s .params;
-    cursor = s .cursor;
-    walk = s .walk;
-    transcript = s .transcript;
-  };
-  tables = s .tables;
+unfoldable pub coreOf : State → Core
+coreOf s = record {
+  stage = stageOf (s .stage);
+  answer = s .answer;
+  fill = s .fill;
+  item = s .item;
+  params = s .params;
+  cursor = s .cursor;
+  walk = s .walk;
+  transcript = s .transcript;
 }
 
-unfoldable pub turnOf : Reply → Turn
-turnOf r = record { answer = r .answer; state = stateOf (r .state) }
+unfoldable pub turnOf : Answer → Core → Turn
+turnOf answer c = record { answer = answer; state = stateOf c }
+
+-- What a caller holds between two calls: the state, which goes by value, and the tables, which are lent.
+pub record Held : Type 0 where
+  pub state : State
+  pub tables : Tables
+
+abbrev pub held : State → List ℕ → List ℕ → List ℕ → Held
+held s roots challenges coefficients = record { state = s; tables = record { roots = roots; challenges = challenges; coefficients = coefficients } }
+
+unfoldable pub heldOf : Reader → Held
+heldOf r = record { state = stateOf (r .core); tables = r .tables }
+
+abbrev pub readerOf : Held → Reader
+readerOf h = record { core = coreOf (h .state); tables = h .tables }
+
+-- What a call gives: its answer, and what the caller holds after it.
+pub record Outcome : Type 0 where
+  pub answer : Answer
+  pub held : Held
+
+-- Of what is returned and what is left in the tables; and of the reader's reply.
+abbrev pub outcome : Turn → List ℕ → List ℕ → List ℕ → Outcome
+outcome turn roots challenges coefficients = record { answer = turn .answer; held = held (turn .state) roots challenges coefficients }
+
+unfoldable pub outcomeOf : Reply → Outcome
+outcomeOf r = record { answer = r .answer; held = heldOf (r .state) }
 
 -- The reader as a caller has it, whose states are the caller's: the exported calls equal these, each by its contract.
-abbrev pub boundary : (List ℕ → Digest) → Params → List ℕ → Calls State
+abbrev pub boundary : (List ℕ → Digest) → Params → List ℕ → Calls Held
 boundary hash p context = record {
-  opened = turnOf (opened hash p context) .state;
-  pieceNext = λ s bytes. turnOf (pieced hash (readerOf s) bytes) .state;
-  pieceAnswer = λ s bytes. turnOf (pieced hash (readerOf s) bytes) .answer;
-  endNext = λ s. turnOf (ended (readerOf s)) .state;
-  endAnswer = λ s. turnOf (ended (readerOf s)) .answer;
+  opened = outcomeOf (opened hash p context) .held;
+  pieceNext = λ h bytes. outcomeOf (pieced hash (readerOf h) bytes) .held;
+  pieceAnswer = λ h bytes. outcomeOf (pieced hash (readerOf h) bytes) .answer;
+  endNext = λ h. outcomeOf (ended (readerOf h)) .held;
+  endAnswer = λ h. outcomeOf (ended (readerOf h)) .answer;
 }

@@ -8,10 +8,12 @@ ghost use Rattle.params.specs.Parameters as parameters;
 ghost use Rattle.fri.specs.Judge as judge;
 ghost use Rattle.reader_model.specs.Model.{opened, pieced, ended};
 ghost use Rattle.look_up.specs.LookUp.{lookUpSpan};
-ghost use Rattle.exports.specs.Boundary.{readerOf, turnOf};
+ghost use Rattle.exports.specs.Boundary.{held, readerOf, outcome, outcomeOf};
 use answer::Answer;
 use look_up::Span;
 use params::Params;
+use reader_model::Reader;
+use reader_model::Tables;
 use state::State;
 use state::Turn;
 
@@ -32,34 +34,61 @@ pub extern "C" fn phieulakhon_file_length(p: Params) -> usize
     params::file_length(p)
 }
 
-// The opening.
+// The opening. The tables are written, whatever they held.
 #[no_mangle]
-pub extern "C" fn phieulakhon_open(p: Params, context: &[u8; 32]) -> Turn
-    ensures { λ r. ⌜ r ≡ turnOf (opened sha256 p (now (context .entry))) ⌝ }
+pub extern "C" fn phieulakhon_open(
+    p: Params,
+    context: &[u8; 32],
+    roots: &mut [u8; 512],
+    challenges: &mut [u32; 16],
+    coefficients: &mut [u32; 64],
+) -> Turn
+    ensures { λ r. ⌜ outcome r (now (roots .exit)) (now (challenges .exit)) (now (coefficients .exit)) ≡ outcomeOf (opened sha256 p (now (context .entry))) ⌝ }
 {
     let c = *context;
     let first = reader::open(p, c);
-    state::turn_of(first)
+    state::hand_over(first, roots, challenges, coefficients)
 }
 
-// A piece, of any number of bytes.
+// A piece, of any number of bytes. The tables are changed in place.
 #[no_mangle]
-pub extern "C" fn phieulakhon_piece(s: State, bytes: &[u8]) -> Turn
-    ensures { λ r. ⌜ r ≡ turnOf (pieced sha256 (readerOf s) (now (bytes .entry))) ⌝ }
+pub extern "C" fn phieulakhon_piece(
+    s: State,
+    roots: &mut [u8; 512],
+    challenges: &mut [u32; 16],
+    coefficients: &mut [u32; 64],
+    bytes: &[u8],
+) -> Turn
+    ensures { λ r. ⌜ outcome r (now (roots .exit)) (now (challenges .exit)) (now (coefficients .exit)) ≡ outcomeOf (pieced sha256 (readerOf (held s (now (roots .entry)) (now (challenges .entry)) (now (coefficients .entry)))) (now (bytes .entry))) ⌝ }
 {
-    let r = state::reader_of(s);
-    let next = reader::piece(r, bytes);
-    state::turn_of(next)
+    let core = state::core_of(s);
+    let progress = reader::piece_in_place(core, roots, challenges, coefficients, bytes);
+    let answer = progress.answer;
+    let next = progress.core;
+    state::turn_of(answer, next)
 }
 
-// The end call.
+// The end call. The tables are cleared.
 #[no_mangle]
-pub extern "C" fn phieulakhon_end(s: State) -> Turn
-    ensures { λ r. ⌜ r ≡ turnOf (ended (readerOf s)) ⌝ }
+pub extern "C" fn phieulakhon_end(
+    s: State,
+    roots: &mut [u8; 512],
+    challenges: &mut [u32; 16],
+    coefficients: &mut [u32; 64],
+) -> Turn
+    ensures { λ r. ⌜ outcome r (now (roots .exit)) (now (challenges .exit)) (now (coefficients .exit)) ≡ outcomeOf (ended (readerOf (held s (now (roots .entry)) (now (challenges .entry)) (now (coefficients .entry))))) ⌝ }
 {
-    let r = state::reader_of(s);
-    let last = reader::end(r);
-    state::turn_of(last)
+    let core = state::core_of(s);
+    let tables = Tables {
+        roots: *roots,
+        challenges: *challenges,
+        coefficients: *coefficients,
+    };
+    let last = reader::end(Reader {
+        core: core,
+        tables: tables,
+    });
+    state::hand_over(last, roots, challenges, coefficients)
 }
 
 // Where the opening of a query in a layer stands in a proof of that length.

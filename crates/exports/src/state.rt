@@ -1,14 +1,12 @@
 // The state as a caller holds it: C's layout, and numbers only, so that whatever bytes a caller hands in are a state. The stage is a number.
 ghost use mathlib.Core.Path.{_≡_};
-ghost use Rattle.exports.specs.Boundary.{numberOf, stageOf, stateOf, readerOf, turnOf};
+ghost use Rattle.exports.specs.Boundary.{numberOf, stageOf, stateOf, coreOf, turnOf, outcome, outcomeOf};
 use answer::Answer;
 use params::Params;
 use reader_model::Core;
 use reader_model::Cursor;
-use reader_model::Reader;
 use reader_model::Reply;
 use reader_model::Stage;
-use reader_model::Tables;
 use reader_model::Walk;
 
 #[repr(C)]
@@ -21,7 +19,6 @@ pub struct State {
     pub cursor: Cursor,
     pub walk: Walk,
     pub transcript: [u8; 32],
-    pub tables: Tables,
 }
 
 // What a call gives: its answer, and the state that it leaves.
@@ -70,8 +67,8 @@ fn stage_of(number: u8) -> Stage
     }
 }
 
-pub fn reader_of(s: State) -> Reader
-    ensures { λ r. ⌜ r ≡ readerOf s ⌝ }
+pub fn core_of(s: State) -> Core
+    ensures { λ r. ⌜ r ≡ coreOf s ⌝ }
 {
     let stage = stage_of(s.stage);
     let answer = s.answer;
@@ -80,8 +77,7 @@ pub fn reader_of(s: State) -> Reader
     let cursor = s.cursor;
     let walk = s.walk;
     let transcript = s.transcript;
-    let tables = s.tables;
-    let core = Core {
+    Core {
         stage: stage,
         answer: answer,
         fill: s.fill,
@@ -90,17 +86,12 @@ pub fn reader_of(s: State) -> Reader
         cursor: cursor,
         walk: walk,
         transcript: transcript,
-    };
-    Reader {
-        core: core,
-        tables: tables,
     }
 }
 
-fn state_of(r: Reader) -> State
-    ensures { λ s. ⌜ s ≡ stateOf r ⌝ }
+fn state_of(core: Core) -> State
+    ensures { λ s. ⌜ s ≡ stateOf core ⌝ }
 {
-    let core = r.core;
     let stage = core.stage;
     let number = number_of(stage);
     let answer = core.answer;
@@ -109,7 +100,6 @@ fn state_of(r: Reader) -> State
     let cursor = core.cursor;
     let walk = core.walk;
     let transcript = core.transcript;
-    let tables = r.tables;
     State {
         stage: number,
         answer: answer,
@@ -119,18 +109,37 @@ fn state_of(r: Reader) -> State
         cursor: cursor,
         walk: walk,
         transcript: transcript,
-        tables: tables,
     }
 }
 
-pub fn turn_of(r: Reply) -> Turn
-    ensures { λ t. ⌜ t ≡ turnOf r ⌝ }
+pub fn turn_of(answer: Answer, core: Core) -> Turn
+    ensures { λ t. ⌜ t ≡ turnOf answer core ⌝ }
 {
-    let answer = r.answer;
-    let left = r.state;
-    let state = state_of(left);
+    let state = state_of(core);
     Turn {
         answer: answer,
         state: state,
     }
+}
+
+// A reply, with its tables where the caller keeps them.
+pub fn hand_over(
+    reply: Reply,
+    roots: &mut [u8; 512],
+    challenges: &mut [u32; 16],
+    coefficients: &mut [u32; 64],
+) -> Turn
+    ensures { λ t. ⌜ outcome t (now (roots .exit)) (now (challenges .exit)) (now (coefficients .exit)) ≡ outcomeOf reply ⌝ }
+{
+    let answer = reply.answer;
+    let state = reply.state;
+    let core = state.core;
+    let tables = state.tables;
+    let r = tables.roots;
+    let h = tables.challenges;
+    let k = tables.coefficients;
+    *roots = r;
+    *challenges = h;
+    *coefficients = k;
+    turn_of(answer, core)
 }

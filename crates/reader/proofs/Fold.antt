@@ -13,10 +13,15 @@ use borrow.Author.Tests.{lt-ltb, le-ltb, ltb-true, ltb-false}
 use Rattle.message.specs.Message.{Digest}
 use Rattle.reader_model.specs.declared.Stage.{Stage}
 use Rattle.reader_model.specs.declared.Stage.the-variants.{ParameterCount, Parameters, RootCount, Root, CoefficientCount, Coefficient, QueryCount, First, Second, Sibling, Tail, Stopped}
+use Rattle.reader_model.specs.declared.Core.{Core}
 use Rattle.reader_model.specs.declared.Reader.{Reader}
 use Rattle.reader_model.specs.State.{itemLength, withCore, withItem}
 use Rattle.reader_model.specs.Items.{advanced}
-use Rattle.reader_model.specs.Model.{stored, step, fed}
+use Rattle.answer.specs.declared.Answer.{Answer}
+use Rattle.answer.specs.Table.{open-so-far}
+use Rattle.reader_model.specs.declared.Reply.{Reply}
+use Rattle.reader_model.specs.Model.{stored, step, fed, answerOf, pieced}
+use Rattle.reader.specs.Private.{held}
 use Rattle.reader.proofs.Laws.{taken, left}
 
 -- No item is longer than the buffer.
@@ -33,6 +38,18 @@ item-fits Second = lit≤ tt
 item-fits Sibling = lit≤ tt
 item-fits Tail = lit≤ tt
 item-fits Stopped = lit≤ tt
+
+-- The reply to a piece: the state after its bytes, and that state's answer.
+abbrev reply : Answer → Reader → Reply
+reply a r = record { answer = a; state = r }
+
+pub answers : (hash : List ℕ → Digest) (s : Reader) (bytes : List ℕ) {r : Reader} {a : Answer} → r ≡ fed hash s bytes → a ≡ answerOf (r .core) open-so-far → reply a r ≡ pieced hash s bytes
+unfolding pieced
+answers hash s bytes {r} after told = rw (told, after) refl
+
+-- The buffer of a piece that ends inside the item.
+pub held-by : (c : Core) (bytes : List ℕ) {item : List ℕ} → item ≡ sets (c .item) (c .fill) (take (length bytes) bytes) → withItem c item (c .fill + length bytes) ≡ held c bytes
+held-by c bytes stores = ap (λ (l : List ℕ). withItem c l (c .fill + length bytes)) (stores ∙ ap (sets (c .item) (c .fill)) (take-length bytes))
 
 -- Whether n bytes end inside an item, told without a sum that could be too large.
 pub ends-inside-test : (fill n need : ℕ) → n < need → ltb fill (need - n) ≡ ltb (fill + n) need
@@ -83,12 +100,9 @@ module _ (hash : List ℕ → Digest) where
       rw (step-more r b (omega arith)) (run-more (stored r b) bs (omega arith) ∙ run-cons r b bs)
 
   -- A piece that ends inside the item.
-  pub fed-inside : (r : Reader) (bytes : List ℕ) {item : List ℕ} → item ≡ sets (r .core .item) (r .core .fill) (take (length bytes) bytes)
-      → r .core .fill + length bytes < itemLength (r .core .stage) → filled r item (r .core .fill + length bytes) ≡ fed hash r bytes
+  pub fed-inside : (r : Reader) (bytes : List ℕ) {c : Core} → c ≡ held (r .core) bytes → r .core .fill + length bytes < itemLength (r .core .stage) → withCore r c ≡ fed hash r bytes
   unfolding fed
-  fed-inside r bytes stores h =
-      ap (λ (l : List ℕ). filled r l (r .core .fill + length bytes)) (stores ∙ ap (sets (r .core .item) (r .core .fill)) (take-length bytes))
-      ∙ sym (run-more r bytes h)
+  fed-inside r bytes e h = ap (withCore r) e ∙ sym (run-more r bytes h)
 
   run-last : (r : Reader) (b : ℕ) (bs : List ℕ) → r .core .fill + length (b ∷ bs) ≡ itemLength (r .core .stage) → foldl (step hash) r (b ∷ bs) ≡ advanced hash (run r (b ∷ bs))
   run-last r b [] h =

@@ -11,14 +11,15 @@ ghost use lib.Dec.{ltb};
 ghost use lib.ListN.{length, take};
 ghost use lib.Seq.{sets};
 ghost use Rattle.sha256.specs.Sha256.{sha256};
-ghost use Rattle.reader_model.specs.State.{itemLength};
+ghost use Rattle.reader_model.specs.State.{itemLength, tables, whole};
 ghost use Rattle.reader_model.specs.Items.{advanced};
 ghost use Rattle.answer.specs.Table.{accepted, too-few-bytes};
-ghost use Rattle.reader_model.specs.Model.{isTail, fed, started, pieced, ended, opened};
-ghost use Rattle.reader.specs.Private.{Sane, tables, whole, afterItem};
+ghost use Rattle.reader_model.specs.Model.{isTail, fed, started, replied, pieced, ended, opened};
+ghost use Rattle.reader.specs.Private.{Sane, held, afterItem};
 use answer::Answer;
 use params::Params;
 use reader_model::Core;
+use reader_model::Progress;
 use reader_model::Reader;
 use reader_model::Reply;
 use reader_model::Stage;
@@ -90,15 +91,17 @@ fn gather(item: &mut [u8; 32], at: usize, bytes: &[u8], n: usize)
     }
 }
 
-// The state after a piece. The tables are lent from item to item, and only the small part goes by value.
-fn feed(state: Reader, bytes: &[u8]) -> Reader
-    ensures { λ r. ⌜ r ≡ fed sha256 state (now (bytes .entry)) ⌝ }
+// The state after a piece, item by item. Only the small part goes by value.
+fn feed(
+    core: Core,
+    roots: &mut [u8; 512],
+    challenges: &mut [u32; 16],
+    coefficients: &mut [u32; 64],
+    bytes: &[u8],
+) -> Core
+    ensures { λ r. ⌜ whole r (now (roots .exit)) (now (challenges .exit)) (now (coefficients .exit)) ≡ fed sha256 (whole core (now (roots .entry)) (now (challenges .entry)) (now (coefficients .entry))) (now (bytes .entry)) ⌝ }
 {
-    let mut c = state.core;
-    let tables = state.tables;
-    let mut roots = tables.roots;
-    let mut challenges = tables.challenges;
-    let mut coefficients = tables.coefficients;
+    let mut c = core;
     let mut i = 0;
     while i < bytes.len() {
         let stage = c.stage;
@@ -109,28 +112,18 @@ fn feed(state: Reader, bytes: &[u8]) -> Reader
         }
         let room = need - fill;
         let n = least(room, bytes.len() - i);
-        let mut item = c.item;
-        gather(&mut item, fill, &bytes[i..], n);
-        c.item = item;
+        gather(&mut c.item, fill, &bytes[i..], n);
         c.fill = fill + n;
         i += n;
         if n == room {
             if queries::goes_on(c) {
                 c = queries::up(c);
             } else {
-                c = advance(c, &mut roots, &mut challenges, &mut coefficients);
+                c = advance(c, roots, challenges, coefficients);
             }
         }
     }
-    let after = Tables {
-        roots: roots,
-        challenges: challenges,
-        coefficients: coefficients,
-    };
-    Reader {
-        core: c,
-        tables: after,
-    }
+    c
 }
 
 // Whether a piece of n bytes ends inside the current item, so that nothing is decided.
@@ -142,47 +135,78 @@ fn ends_inside(c: Core, n: usize) -> bool
     if n < need { c.fill < need - n } else { false }
 }
 
-// A piece that ends inside the current item: its bytes go into the buffer, and the tables stay where they are.
-fn hold(state: Reader, bytes: &[u8]) -> Reader
-    requires { ⌜ state .core .fill + length (now bytes) < itemLength (state .core .stage) ⌝ }
-    ensures { λ r. ⌜ r ≡ fed sha256 state (now (bytes .entry)) ⌝ }
+// A piece that ends inside the current item: its bytes go into the buffer.
+fn hold(core: Core, bytes: &[u8]) -> Core
+    requires { ⌜ core .fill + length (now bytes) < itemLength (core .stage) ⌝ }
+    ensures { λ r. ⌜ r ≡ held core (now (bytes .entry)) ⌝ }
 {
-    let mut c = state.core;
+    let mut c = core;
     let fill = c.fill;
     let length = bytes.len();
-    let mut item = c.item;
-    gather(&mut item, fill, bytes, length);
-    c.item = item;
+    gather(&mut c.item, fill, bytes, length);
     c.fill = fill + length;
-    let tables = state.tables;
-    Reader {
-        core: c,
-        tables: tables,
-    }
+    c
 }
 
-// The state after a piece. Small pieces are common where bytes come off the wire.
-fn next(state: Reader, bytes: &[u8]) -> Reader
-    ensures { λ r. ⌜ r ≡ fed sha256 state (now (bytes .entry)) ⌝ }
+// The state after a piece. Small pieces are common where bytes come off the wire; no item has more than 32 bytes, so a longer piece ends inside none.
+fn next(
+    core: Core,
+    roots: &mut [u8; 512],
+    challenges: &mut [u32; 16],
+    coefficients: &mut [u32; 64],
+    bytes: &[u8],
+) -> Core
+    ensures { λ r. ⌜ whole r (now (roots .exit)) (now (challenges .exit)) (now (coefficients .exit)) ≡ fed sha256 (whole core (now (roots .entry)) (now (challenges .entry)) (now (coefficients .entry))) (now (bytes .entry)) ⌝ }
 {
-    let c = state.core;
-    if ends_inside(c, bytes.len()) {
-        hold(state, bytes)
-    } else {
-        feed(state, bytes)
+    if bytes.len() < 32 {
+        if ends_inside(core, bytes.len()) {
+            return hold(core, bytes);
+        }
+        return feed(core, roots, challenges, coefficients, bytes);
+    }
+    feed(core, roots, challenges, coefficients, bytes)
+}
+
+// A piece: its answer, and the small part of the state after it; the tables are lent and changed in place.
+pub fn piece_in_place(
+    core: Core,
+    roots: &mut [u8; 512],
+    challenges: &mut [u32; 16],
+    coefficients: &mut [u32; 64],
+    bytes: &[u8],
+) -> Progress
+    ensures { λ r. ⌜ replied (r .answer) (r .core) (now (roots .exit)) (now (challenges .exit)) (now (coefficients .exit)) ≡ pieced sha256 (whole core (now (roots .entry)) (now (challenges .entry)) (now (coefficients .entry))) (now (bytes .entry)) ⌝ }
+{
+    let next = next(core, roots, challenges, coefficients, bytes);
+    let answer = state::answer_of(next, answer::OPEN);
+    Progress {
+        answer: answer,
+        core: next,
     }
 }
 
-// A piece: its answer, and the state after it.
+// A piece by value: its answer, and the state after it.
 pub fn piece(state: Reader, bytes: &[u8]) -> Reply
     ensures { λ r. ⌜ r ≡ pieced sha256 state (now (bytes .entry)) ⌝ }
 {
-    let next = next(state, bytes);
-    let core = next.core;
-    let answer = state::answer_of(core, answer::OPEN);
+    let core = state.core;
+    let tables = state.tables;
+    let mut roots = tables.roots;
+    let mut challenges = tables.challenges;
+    let mut coefficients = tables.coefficients;
+    let progress = piece_in_place(core, &mut roots, &mut challenges, &mut coefficients, bytes);
+    let answer = progress.answer;
+    let next = progress.core;
     Reply {
         answer: answer,
-        state: next,
+        state: Reader {
+            core: next,
+            tables: Tables {
+                roots: roots,
+                challenges: challenges,
+                coefficients: coefficients,
+            },
+        },
     }
 }
 

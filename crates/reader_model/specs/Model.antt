@@ -15,7 +15,7 @@ use Rattle.reader_model.specs.declared.Stage.the-variants.{ParameterCoun
 use Rattle.reader_model.specs.declared.Core.{Core}
 use Rattle.reader_model.specs.declared.Reader.{Reader}
 use Rattle.reader_model.specs.declared.Reply.{Reply}
-use Rattle.reader_model.specs.State.{itemLength, place, withCore, withItem, closedState, noCursor, noWalk, noTables}
+use Rattle.reader_model.specs.State.{itemLength, whole, place, withCore, withItem, closedState, noCursor, noWalk, noTables}
 use Rattle.reader_model.specs.Items.{advanced, sane}
 
 -- One byte more of the current item.
@@ -65,6 +65,10 @@ isTail Stopped = false
 unfoldable pub answerOf : Core → ℕ → Answer
 answerOf c number =
     cond (isStopped (c .stage)) (c .answer) (cond (sane c) (answered number (place c)) (answered closed 0))
+
+-- A reply put together from its parts.
+abbrev pub replied : Answer → Core → List ℕ → List ℕ → List ℕ → Reply
+replied a c roots challenges coefficients = record { answer = a; state = whole c roots challenges coefficients }
 
 -- A piece: the answer and the state that it leaves.
 unfoldable pub pieced : (List ℕ → Digest) → Reader → List ℕ → Reply

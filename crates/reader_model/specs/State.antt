@@ -57,6 +57,13 @@ stopped answer = record {
 abbrev pub closedState : Reader
 closedState = record { core = stopped (answered closed 0); tables = noTables }
 
+-- The parts of a state put together.
+abbrev pub tables : List ℕ → List ℕ → List ℕ → Tables
+tables roots challenges coefficients = record { roots = roots; challenges = challenges; coefficients = coefficients }
+
+abbrev pub whole : Core → List ℕ → List ℕ → List ℕ → Reader
+whole c roots challenges coefficients = record { core = c; tables = tables roots challenges coefficients }
+
 -- The bytes so far.
 abbrev pub place : Core → ℕ
 place c = c .cursor .start + c .fill

@@ -72,3 +72,9 @@ pub struct Reply {
     pub answer: Answer,
     pub state: Reader,
 }
+
+// What a call on a state whose tables are lent gives: its answer, and the small part that it leaves.
+pub struct Progress {
+    pub answer: Answer,
+    pub core: Core,
+}

@@ -8,6 +8,7 @@ ghost use Rattle.reader_model.specs.Model.{fed};
 use answer::Answer;
 use params::Params;
 use reader_model::Reader;
+use reader_model::Tables;
 
 // The proof in one piece.
 pub fn whole(p: Params, context: [u8; 32], proof: &[u8]) -> Answer
@@ -44,16 +45,33 @@ fn piece_end(at: usize, size: usize, length: usize) -> usize
 fn fed_in_pieces(state: Reader, proof: &[u8], size: usize) -> Reader
     ensures { λ r. ⌜ r ≡ fed sha256 state (now (proof .entry)) ⌝ }
 {
-    let mut s = state;
+    let mut core = state.core;
+    let tables = state.tables;
+    let mut roots = tables.roots;
+    let mut challenges = tables.challenges;
+    let mut coefficients = tables.coefficients;
     let mut at = 0;
     while at < proof.len() {
         let to = piece_end(at, size, proof.len());
-        let reply = reader::piece(s, &proof[at..to]);
-        let next = reply.state;
-        s = next;
+        let progress = reader::piece_in_place(
+            core,
+            &mut roots,
+            &mut challenges,
+            &mut coefficients,
+            &proof[at..to],
+        );
+        let next = progress.core;
+        core = next;
         at = to;
     }
-    s
+    Reader {
+        core: core,
+        tables: Tables {
+            roots: roots,
+            challenges: challenges,
+            coefficients: coefficients,
+        },
+    }
 }
 
 // The proof in pieces of `size` bytes, one byte at least.

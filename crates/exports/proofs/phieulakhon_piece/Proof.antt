@@ -1,22 +1,12 @@
 -- `exports::phieulakhon_piece` meets its contract.
 -- Assumes nothing.
-use Rattle.exports.proofs.Laws.{turned, pieced-from}
 use borrow.Author.Needs.{needs}
+use Rattle.exports.proofs.Laws.{outcome-by, pieced-from}
 use Rattle.exports.proofs.phieulakhon_piece.Statement.{statement}
 use Rattle.exports.proofs.phieulakhon_piece.Tie as tie
 
-reader-of-requires : tie.Need-reader-of-requires
-reader-of-requires c κs = search needs
-
-piece-requires : tie.Need-piece-requires
-piece-requires c κs = search needs
-
-turn-of-requires : tie.Need-turn-of-requires
-turn-of-requires c κs = search needs
-
 returns : tie.Need-returns
-returns c = search (turned, pieced-from, needs)
+returns c = outcome-by _ _ _ (c .turn-of .ensures) (pieced-from _ _ _ (c .before .before .before .before .before .before .before .core-of .ensures) _ (c .before .before .before .piece-in-place .ensures))
 
 pub phieulakhon-piece-spec : {M : Type 1} → statement M
-phieulakhon-piece-spec =
-    tie.close (tie.spec reader-of-requires piece-requires turn-of-requires returns)
+phieulakhon-piece-spec = tie.close (tie.spec (λ c κs. search needs) (λ c κs. search needs) (λ c κs. search needs) returns)

@@ -7,19 +7,18 @@ use borrow.Author.Needs.{needs}
 use lib.ListN.{length, take, drop, length-drop}
 use lib.Seq.{length-take-le}
 use Rattle.sha256.specs.Sha256.{sha256}
-use Rattle.reader_model.specs.State.{itemLength}
+use Rattle.reader_model.specs.State.{itemLength, whole}
 use Rattle.reader_model.specs.Model.{fed}
-use Rattle.reader.specs.Private.{whole}
 use Rattle.reader.proofs.Laws.{goes-on-sane, advanced-risen}
 use Rattle.reader.proofs.Fold.{item-fits, fed-stopped, fed-all, fed-more, fed-last}
 use Rattle.reader.proofs.feed.Statement.{statement}
 use Rattle.reader.proofs.feed.Tie as tie
 
 abbrev Inv-loop : tie.InvT-loop
-Inv-loop bytes c₀ roots₀ challenges₀ coefficients₀ i₀ c roots challenges coefficients i = (i ≤ length bytes) × (whole c roots challenges coefficients ≡ fed sha256 (whole c₀ roots₀ challenges₀ coefficients₀) (take i bytes))
+Inv-loop roots₀ challenges₀ coefficients₀ bytes c₀ i₀ roots challenges coefficients c i = (i ≤ length bytes) × (whole c roots challenges coefficients ≡ fed sha256 (whole c₀ roots₀ challenges₀ coefficients₀) (take i bytes))
 
 abbrev μ-loop : tie.MeasureT-loop
-μ-loop bytes c₀ roots₀ challenges₀ coefficients₀ i₀ c roots challenges coefficients i = length bytes - i
+μ-loop roots₀ challenges₀ coefficients₀ bytes c₀ i₀ roots challenges coefficients c i = length bytes - i
 
 loop-holds : tie.Need-loop-holds Inv-loop μ-loop
 unfolding fed
@@ -48,11 +47,11 @@ part-gather-end c = search needs
 
 gather-requires : tie.Need-gather-requires Inv-loop μ-loop
 gather-requires c κs =
-    let bytes = c .before .before .before .before .before .before .before .before .before .before .before .before .before .before .args .bytes .now in
-    let i = c .before .before .before .before .before .before .before .loop .i in
-    let inside : i + c .before .before .before .least .result ≤ length bytes = omega (arith, c .before .before .before .least .ensures) in
+    let bytes = c .before .before .before .before .before .before .before .before .args .bytes .now in
+    let i = c .before .before .before .before .before .before .loop .i in
+    let inside : i + c .before .before .least .result ≤ length bytes = omega (arith, c .before .before .least .ensures) in
     let long : length (take (length bytes - i) (drop i bytes)) ≡ length bytes - i = length-take-le _ _ (simp length-drop (omega arith)) in
-    (omega (arith, item-fits (c .before .before .before .before .before .before .before .loop .c .stage), c .before .before .before .before .before .item-length .ensures, c .before .before .before .least .ensures), omega arith)
+    (omega (arith, item-fits (c .before .before .before .before .before .before .loop .c .stage), c .before .before .before .before .item-length .ensures, c .before .before .least .ensures), omega arith)
 
 add-c : tie.Need-add-c Inv-loop μ-loop
 add-c c = search needs
@@ -71,13 +70,13 @@ loop-less c = search needs
 
 loop-again : tie.Need-loop-again Inv-loop μ-loop
 loop-again c =
-    let state = c .before .before .before .before .before .before .before .before .before .before .before .before .loop .c in
-    let i = c .before .before .before .before .before .before .before .before .before .before .before .before .loop .i in
-    let n = c .before .before .before .before .before .before .before .before .least .result in
-    let inside : i + n ≤ length (c .before .before .before .before .before .before .before .before .before .before .before .before .before .before .before .before .before .before .before .args .bytes .now) = omega (arith, c .before .before .before .before .before .before .before .before .least .ensures) in
-    let some : 0 < n = omega (arith, c .before .before .before .before .before .before .before .before .least .ensures) in
-    let full : state .fill + n ≡ itemLength (state .stage) = omega (arith, c .before .before .before .before .before .before .before .before .before .before .item-length .ensures) in
-    (inside, fed-last sha256 (c .before .before .before .before .before .before .before .before .before .before .before .before .before .before .before .before .before .before .before .args .state) _ i (c .before .before .before .before .before .before .before .before .before .before .before .before .loop .inv .1) n _ (c .before .before .before .before .gather .ensures) inside some full (advanced-risen _ (sym (c .before .before .goes-on .ensures) ∙ c .before .if3 .taken) (c .up .ensures)))
+    let state = c .before .before .before .before .before .before .before .before .before .before .before .loop .c in
+    let i = c .before .before .before .before .before .before .before .before .before .before .before .loop .i in
+    let n = c .before .before .before .before .before .before .before .least .result in
+    let inside : i + n ≤ length (c .before .before .before .before .before .before .before .before .before .before .before .before .before .args .bytes .now) = omega (arith, c .before .before .before .before .before .before .before .least .ensures) in
+    let some : 0 < n = omega (arith, c .before .before .before .before .before .before .before .least .ensures) in
+    let full : state .fill + n ≡ itemLength (state .stage) = omega (arith, c .before .before .before .before .before .before .before .before .before .item-length .ensures) in
+    (inside, fed-last sha256 _ _ i (c .before .before .before .before .before .before .before .before .before .before .before .loop .inv .1) n _ (c .before .before .before .before .gather .ensures) inside some full (advanced-risen _ (sym (c .before .before .goes-on .ensures) ∙ c .before .if3 .taken) (c .up .ensures)))
 
 advance-requires : tie.Need-advance-requires Inv-loop μ-loop
 advance-requires c κs = search needs
@@ -87,31 +86,31 @@ loop-less-2 c = search needs
 
 loop-again-2 : tie.Need-loop-again-2 Inv-loop μ-loop
 loop-again-2 c =
-    let state = c .before .before .before .before .before .before .before .before .before .before .before .before .before .before .before .loop .c in
-    let i = c .before .before .before .before .before .before .before .before .before .before .before .before .before .before .before .loop .i in
-    let n = c .before .before .before .before .before .before .before .before .before .before .before .least .result in
-    let inside : i + n ≤ length (c .before .before .before .before .before .before .before .before .before .before .before .before .before .before .before .before .before .before .before .before .before .before .args .bytes .now) = omega (arith, c .before .before .before .before .before .before .before .before .before .before .before .least .ensures) in
-    let some : 0 < n = omega (arith, c .before .before .before .before .before .before .before .before .before .before .before .least .ensures) in
-    let full : state .fill + n ≡ itemLength (state .stage) = omega (arith, c .before .before .before .before .before .before .before .before .before .before .before .before .before .item-length .ensures) in
-    (inside, fed-last sha256 (c .before .before .before .before .before .before .before .before .before .before .before .before .before .before .before .before .before .before .before .before .before .before .args .state) _ i (c .before .before .before .before .before .before .before .before .before .before .before .before .before .before .before .loop .inv .1) n _ (c .before .before .before .before .before .before .before .gather .ensures) inside some full (c .advance .ensures))
+    let state = c .before .before .before .before .before .before .before .before .before .before .before .before .before .before .loop .c in
+    let i = c .before .before .before .before .before .before .before .before .before .before .before .before .before .before .loop .i in
+    let n = c .before .before .before .before .before .before .before .before .before .before .least .result in
+    let inside : i + n ≤ length (c .before .before .before .before .before .before .before .before .before .before .before .before .before .before .before .before .args .bytes .now) = omega (arith, c .before .before .before .before .before .before .before .before .before .before .least .ensures) in
+    let some : 0 < n = omega (arith, c .before .before .before .before .before .before .before .before .before .before .least .ensures) in
+    let full : state .fill + n ≡ itemLength (state .stage) = omega (arith, c .before .before .before .before .before .before .before .before .before .before .before .before .item-length .ensures) in
+    (inside, fed-last sha256 _ _ i (c .before .before .before .before .before .before .before .before .before .before .before .before .before .before .loop .inv .1) n _ (c .before .before .before .before .before .before .before .gather .ensures) inside some full (c .advance .ensures))
 
 loop-less-3 : tie.Need-loop-less-3 Inv-loop μ-loop
 loop-less-3 c = search needs
 
 loop-again-3 : tie.Need-loop-again-3 Inv-loop μ-loop
 loop-again-3 c =
-    let state = c .before .before .before .before .before .before .before .before .before .loop .c in
-    let i = c .before .before .before .before .before .before .before .before .before .loop .i in
-    let n = c .before .before .before .before .before .least .result in
-    let inside : i + n ≤ length (c .before .before .before .before .before .before .before .before .before .before .before .before .before .before .before .before .args .bytes .now) = omega (arith, c .before .before .before .before .before .least .ensures) in
-    let within : state .fill + n < itemLength (state .stage) = omega (arith, c .before .before .before .before .before .before .before .item-length .ensures, c .before .before .before .before .before .least .ensures) in
-    (inside, fed-more sha256 (c .before .before .before .before .before .before .before .before .before .before .before .before .before .before .before .before .args .state) _ i (c .before .before .before .before .before .before .before .before .before .loop .inv .1) n _ (c .before .gather .ensures) inside within)
+    let state = c .before .before .before .before .before .before .before .before .loop .c in
+    let i = c .before .before .before .before .before .before .before .before .loop .i in
+    let n = c .before .before .before .before .least .result in
+    let inside : i + n ≤ length (c .before .before .before .before .before .before .before .before .before .before .args .bytes .now) = omega (arith, c .before .before .before .before .least .ensures) in
+    let within : state .fill + n < itemLength (state .stage) = omega (arith, c .before .before .before .before .before .before .item-length .ensures, c .before .before .before .before .least .ensures) in
+    (inside, fed-more sha256 _ _ i (c .before .before .before .before .before .before .before .before .loop .inv .1) n _ (c .before .gather .ensures) inside within)
 
 returns : tie.Need-returns Inv-loop μ-loop
-returns c = fed-all sha256 (c .before .before .before .before .before .before .before .before .args .state) (c .before .before .before .before .before .before .before .before .args .bytes .now) (c .before .loop .i) (c .before .loop .inv .1) (omega arith)
+returns c = fed-all sha256 _ (c .before .before .before .args .bytes .now) (c .before .loop .i) (c .before .loop .inv .1) (omega arith)
 
 returns-2 : tie.Need-returns-2 Inv-loop μ-loop
-returns-2 c = fed-stopped sha256 (c .before .before .before .before .before .before .before .before .before .before .args .state) (c .before .before .before .before .before .before .before .before .before .before .args .bytes .now) (c .before .before .before .loop .i) (c .before .before .before .loop .inv .1) (omega (arith, c .before .item-length .ensures))
+returns-2 c = fed-stopped sha256 _ (c .before .before .before .before .before .args .bytes .now) (c .before .before .before .loop .i) (c .before .before .before .loop .inv .1) (omega (arith, c .before .item-length .ensures))
 
 pub feed-spec : {M : Type 1} → statement M
 feed-spec =

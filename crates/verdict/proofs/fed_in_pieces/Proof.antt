@@ -6,6 +6,7 @@ use native.Mathlib.Omega.{arith}
 use borrow.Author.Needs.{needs}
 use lib.ListN.{length, take}
 use Rattle.sha256.specs.Sha256.{sha256}
+use Rattle.reader_model.specs.State.{whole}
 use Rattle.reader_model.specs.Model.{fed}
 use Rattle.reader_model.proofs.Theorem.{fed-none}
 use Rattle.verdict.proofs.Laws.{fed-more, fed-all}
@@ -13,18 +14,19 @@ use Rattle.verdict.proofs.fed_in_pieces.Statement.{statement}
 use Rattle.verdict.proofs.fed_in_pieces.Tie as tie
 
 abbrev Inv-loop : tie.InvT-loop
-Inv-loop proof size s₀ at₀ s at = (at ≤ length proof) × (s ≡ fed sha256 s₀ (take at proof))
+Inv-loop proof size core₀ roots₀ challenges₀ coefficients₀ at₀ core roots challenges coefficients at =
+    (at ≤ length proof) × (whole core roots challenges coefficients ≡ fed sha256 (whole core₀ roots₀ challenges₀ coefficients₀) (take at proof))
 
 abbrev μ-loop : tie.MeasureT-loop
-μ-loop proof size s₀ at₀ s at = length proof - at
+μ-loop proof size core₀ roots₀ challenges₀ coefficients₀ at₀ core roots challenges coefficients at = length proof - at
 
 loop-holds : tie.Need-loop-holds Inv-loop μ-loop
 loop-holds c = (omega arith, sym (fed-none sha256 _))
 
 loop-again : tie.Need-loop-again Inv-loop μ-loop
 loop-again c =
-    let b = c .before .before .before .before .before .loop in
-    (omega arith, fed-more _ _ (b .at) _ (omega arith) (b .inv .1) (c .before .piece .ensures))
+    let b = c .before .before .before .before .before .before .before .before .loop in
+    (omega arith, fed-more _ _ (b .at) _ (omega arith) (b .inv .1) (c .before .piece-in-place .ensures))
 
 returns : tie.Need-returns Inv-loop μ-loop
 returns c = fed-all _ _ (c .before .loop .at) (omega arith) (c .before .loop .inv .1)

@@ -10,7 +10,7 @@ number-of-requires c κs = search needs
 
 returns : tie.Need-returns
 unfolding stateOf
-returns c = rw (c .before .before .before .before .before .before .before .number-of .ensures)
+returns c = rw (c .before .before .before .before .before .before .number-of .ensures)
 
 pub state-of-spec : {M : Type 1} → statement M
 state-of-spec = tie.close (tie.spec number-of-requires returns)
