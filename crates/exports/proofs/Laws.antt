@@ -5,6 +5,7 @@ use mathlib.Core.Path.{_≡_, ap, _∙_}
 use Rattle.sha256.specs.Sha256.{sha256}
 use Rattle.answer.specs.declared.Answer.{Answer}
 use Rattle.reader_model.specs.declared.Core.{Core}
+use Rattle.reader_model.specs.declared.Reader.{Reader}
 use Rattle.reader_model.specs.declared.Reply.{Reply}
 use Rattle.reader_model.specs.State.{whole}
 use Rattle.reader_model.specs.Model.{replied, pieced, ended}
@@ -20,9 +21,11 @@ outcome-by roots challenges coefficients e f = ap (λ (u : Turn). outcome u root
 pub outcome-of : {x : Outcome} {y z : Reply} → x ≡ outcomeOf y → y ≡ z → x ≡ outcomeOf z
 outcome-of e f = e ∙ ap outcomeOf f
 
-module _ {k l : Core} (roots challenges coefficients : List ℕ) (same : k ≡ l) where
-  pub pieced-from : {y : Reply} (bytes : List ℕ) → y ≡ pieced sha256 (whole k roots challenges coefficients) bytes → y ≡ pieced sha256 (whole l roots challenges coefficients) bytes
-  pieced-from bytes e = e ∙ ap (λ c. pieced sha256 (whole c roots challenges coefficients) bytes) same
+pub pieced-from : {y : Reply} {r x : Reader} (bytes : List ℕ) → y ≡ pieced sha256 r bytes → r ≡ x → y ≡ pieced sha256 x bytes
+pieced-from bytes e f = e ∙ ap (λ r. pieced sha256 r bytes) f
 
-  pub ended-from : {y : Reply} → y ≡ ended (whole k roots challenges coefficients) → y ≡ ended (whole l roots challenges coefficients)
-  ended-from e = e ∙ ap (λ c. ended (whole c roots challenges coefficients)) same
+pub ended-from : {y : Reply} {r x : Reader} → y ≡ ended r → r ≡ x → y ≡ ended x
+ended-from e f = e ∙ ap ended f
+
+pub whole-from : {k l : Core} (roots challenges coefficients : List ℕ) → k ≡ l → whole k roots challenges coefficients ≡ whole l roots challenges coefficients
+whole-from roots challenges coefficients e = ap (λ c. whole c roots challenges coefficients) e

@@ -6,7 +6,7 @@ use Rattle.exports.proofs.phieulakhon_open.Statement.{statement}
 use Rattle.exports.proofs.phieulakhon_open.Tie as tie
 
 returns : tie.Need-returns
-returns c = outcome-of (c .hand-over .ensures) (c .before .before .before .before .«open» .ensures)
+returns c = search (outcome-of, needs)
 
 pub phieulakhon-open-spec : {M : Type 1} → statement M
 phieulakhon-open-spec = tie.close (tie.spec (λ c κs. search needs) (λ c κs. search needs) returns)
