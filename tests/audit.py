@@ -268,6 +268,11 @@ def kinds_of(before, after):
     return kinds
 
 
+def is_program(kinds):
+    """Whether an edit is a wrong program: it changes code and no statement."""
+    return "code" in kinds and not kinds & {"contract", "definition"}
+
+
 def check_edits(promises):
     """crate → edit → what it changes."""
     edits = {}
@@ -312,7 +317,7 @@ def check_wrong_programs(calls, edits, promises):
             kinds = edits.get(where or crate, {}).get(edit)
             if kinds is None:
                 fault(call.name, f"no such edit: {n}")
-            elif "code" in kinds and not kinds & {"contract", "definition"}:
+            elif is_program(kinds):
                 programs += 1
         if programs < 2:
             fault(call.name, f"has {programs} wrong programs in docs/PROMISES.md")
@@ -382,7 +387,9 @@ def main():
     check_trust()
     for f in faults:
         print(f"audit: {f}", file=sys.stderr)
-    print(f"audit: {len(calls)} public calls of {len(every)} functions, {sum(map(len, edits.values()))} must-fail edits, {len(faults)} faults")
+    kinds = [k for of_crate in edits.values() for k in of_crate.values()]
+    programs = sum(map(is_program, kinds))
+    print(f"audit: {len(calls)} public calls of {len(every)} functions, {len(kinds)} must-fail edits ({programs} wrong programs), {len(faults)} faults")
     sys.exit(1 if faults else 0)
 
 

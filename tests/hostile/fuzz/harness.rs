@@ -1,7 +1,8 @@
 //! The fuzzer's target: an input is a job or a recipe for one, and the exported
 //! calls, through the Rust binding, must answer it as this program does: the
-//! verdict, every piece, the end call and a look-up. The first byte's lowest bit
-//! says which it is; its others are the size of the pieces, and what is looked up.
+//! length, the verdict, every piece, the end call and a look-up. The first byte's
+//! lowest bit says which it is; its others are the size of the pieces, and what is
+//! looked up.
 
 use std::fmt::Debug;
 use std::process::exit;
@@ -66,6 +67,8 @@ fn compare(job: &[u8], choice: usize) -> Answer {
         k: params.k,
         q: params.q,
     };
+    let length = params.valid().then(|| params.file_length());
+    same("the length", length, theirs.file_length());
     let whole = verdict(theirs, Context(*context), proof);
     same("the verdict", answer, ended(whole));
     match Reader::open(theirs, Context(*context)) {
