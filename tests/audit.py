@@ -20,7 +20,7 @@ ROOT = Path(__file__).resolve().parent.parent
 LIBRARY = {"mathlib", "Prim", "native", "lib", "borrow"}
 LANGUAGE = set("λ . , ( ) { } ⌜ ⌝ × → :".split())  # the contract language's own signs
 WORDS = {"now", "entry", "exit", "tt"}  # its own words: a reference's value, at the call and at the return
-ASSEMBLES = {"replied", "outcome"}  # records made of their arguments: an equation of one pins every argument
+ASSEMBLES = {"replied", "outcome", "buffer"}  # records made of their arguments: an equation of one pins every argument
 OUTSIDE = {"job::judge"}  # its result hangs on what a descriptor gives: the contract states what all correct ones have in common
 TESTS_ONLY = {"test_exports"}  # passes calls on to the comparisons; no interface for users
 

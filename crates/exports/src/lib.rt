@@ -1,21 +1,15 @@
 // The calls for programs in C and Rust, under C names. No call has a `requires`: each is safe and ends for all arguments, a state that no call
 // made among them.
-mod state;
-
 ghost use mathlib.Core.Path.{_≡_};
 ghost use Rattle.sha256.specs.Sha256.{sha256};
 ghost use Rattle.params.specs.Parameters as parameters;
 ghost use Rattle.fri.specs.Judge as judge;
 ghost use Rattle.reader_model.specs.Model.{opened, pieced, ended};
 ghost use Rattle.look_up.specs.LookUp.{lookUpSpan};
-ghost use Rattle.exports.specs.Boundary.{held, readerOf, outcome, outcomeOf};
+ghost use Rattle.lent_reader.specs.Held.{held, readerOf, outcome, outcomeOf};
 use answer::Answer;
 use look_up::Span;
 use params::Params;
-use reader_model::Reader;
-use reader_model::Tables;
-use state::State;
-use state::Turn;
 
 // The verdict on a whole proof.
 #[no_mangle]
@@ -34,61 +28,95 @@ pub extern "C" fn phieulakhon_file_length(p: Params) -> usize
     params::file_length(p)
 }
 
-// The opening. The tables are written, whatever they held.
+// The opening. What the caller holds of a reader is nine arrays (lent_reader says what each has); all are written, whatever they held.
 #[no_mangle]
 pub extern "C" fn phieulakhon_open(
     p: Params,
     context: &[u8; 32],
+    marks: &mut [u8; 9],
+    words: &mut [u32; 7],
+    counts: &mut [usize; 2],
+    item: &mut [u8; 32],
+    node: &mut [u8; 32],
+    transcript: &mut [u8; 32],
     roots: &mut [u8; 512],
     challenges: &mut [u32; 16],
     coefficients: &mut [u32; 64],
-) -> Turn
-    ensures { λ r. ⌜ outcome r (now (roots .exit)) (now (challenges .exit)) (now (coefficients .exit)) ≡ outcomeOf (opened sha256 p (now (context .entry))) ⌝ }
+) -> Answer
+    ensures { λ r. ⌜ outcome r (now (marks .exit)) (now (words .exit)) (now (counts .exit)) (now (item .exit)) (now (node .exit)) (now (transcript .exit)) (now (roots .exit)) (now (challenges .exit)) (now (coefficients .exit)) ≡ outcomeOf (opened sha256 p (now (context .entry))) ⌝ }
 {
     let c = *context;
-    let first = reader::open(p, c);
-    state::hand_over(first, roots, challenges, coefficients)
+    lent_reader::open(
+        p,
+        c,
+        marks,
+        words,
+        counts,
+        item,
+        node,
+        transcript,
+        roots,
+        challenges,
+        coefficients,
+    )
 }
 
-// A piece, of any number of bytes. The tables are changed in place.
+// A piece, of any number of bytes.
 #[no_mangle]
 pub extern "C" fn phieulakhon_piece(
-    s: State,
+    marks: &mut [u8; 9],
+    words: &mut [u32; 7],
+    counts: &mut [usize; 2],
+    item: &mut [u8; 32],
+    bytes: &[u8],
+    node: &mut [u8; 32],
+    transcript: &mut [u8; 32],
     roots: &mut [u8; 512],
     challenges: &mut [u32; 16],
     coefficients: &mut [u32; 64],
-    bytes: &[u8],
-) -> Turn
-    ensures { λ r. ⌜ outcome r (now (roots .exit)) (now (challenges .exit)) (now (coefficients .exit)) ≡ outcomeOf (pieced sha256 (readerOf (held s (now (roots .entry)) (now (challenges .entry)) (now (coefficients .entry)))) (now (bytes .entry))) ⌝ }
+) -> Answer
+    ensures { λ r. ⌜ outcome r (now (marks .exit)) (now (words .exit)) (now (counts .exit)) (now (item .exit)) (now (node .exit)) (now (transcript .exit)) (now (roots .exit)) (now (challenges .exit)) (now (coefficients .exit)) ≡ outcomeOf (pieced sha256 (readerOf (held (now (marks .entry)) (now (words .entry)) (now (counts .entry)) (now (item .entry)) (now (node .entry)) (now (transcript .entry)) (now (roots .entry)) (now (challenges .entry)) (now (coefficients .entry)))) (now (bytes .entry))) ⌝ }
 {
-    let core = state::core_of(s);
-    let progress = reader::piece_in_place(core, roots, challenges, coefficients, bytes);
-    let answer = progress.answer;
-    let next = progress.core;
-    state::turn_of(answer, next)
+    lent_reader::piece(
+        marks,
+        words,
+        counts,
+        item,
+        bytes,
+        node,
+        transcript,
+        roots,
+        challenges,
+        coefficients,
+    )
 }
 
-// The end call. The tables are cleared.
+// The end call. It leaves the closed state.
 #[no_mangle]
 pub extern "C" fn phieulakhon_end(
-    s: State,
+    marks: &mut [u8; 9],
+    words: &mut [u32; 7],
+    counts: &mut [usize; 2],
+    item: &mut [u8; 32],
+    node: &mut [u8; 32],
+    transcript: &mut [u8; 32],
     roots: &mut [u8; 512],
     challenges: &mut [u32; 16],
     coefficients: &mut [u32; 64],
-) -> Turn
-    ensures { λ r. ⌜ outcome r (now (roots .exit)) (now (challenges .exit)) (now (coefficients .exit)) ≡ outcomeOf (ended (readerOf (held s (now (roots .entry)) (now (challenges .entry)) (now (coefficients .entry))))) ⌝ }
+) -> Answer
+    ensures { λ r. ⌜ outcome r (now (marks .exit)) (now (words .exit)) (now (counts .exit)) (now (item .exit)) (now (node .exit)) (now (transcript .exit)) (now (roots .exit)) (now (challenges .exit)) (now (coefficients .exit)) ≡ outcomeOf (ended (readerOf (held (now (marks .entry)) (now (words .entry)) (now (counts .entry)) (now (item .entry)) (now (node .entry)) (now (transcript .entry)) (now (roots .entry)) (now (challenges .entry)) (now (coefficients .entry))))) ⌝ }
 {
-    let core = state::core_of(s);
-    let tables = Tables {
-        roots: *roots,
-        challenges: *challenges,
-        coefficients: *coefficients,
-    };
-    let last = reader::end(Reader {
-        core: core,
-        tables: tables,
-    });
-    state::hand_over(last, roots, challenges, coefficients)
+    lent_reader::end(
+        marks,
+        words,
+        counts,
+        item,
+        node,
+        transcript,
+        roots,
+        challenges,
+        coefficients,
+    )
 }
 
 // Where the opening of a query in a layer stands in a proof of that length.

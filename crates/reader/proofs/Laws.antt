@@ -1,6 +1,6 @@
 -- Laws on choices by a test, and on the tests of a state, over plain variables, so that a function's answer only cites them.
 -- Assumes nothing.
-use Prim.Native.Nat.{ℕ, _+_}
+use Prim.Native.Nat.{ℕ, _+_, _≤_, _<_}
 use mathlib.Core.Path.{_≡_, refl, sym, _∙_, ap, ap₂}
 use mathlib.Core.Bool.{Bool, true, false, cond, _&&_, false≢true}
 use mathlib.Core.List.{List}
@@ -53,6 +53,10 @@ sane-bounds c e0 =
       layer = ltb-true _ _ (and-fst (ltb (c .cursor .layer) 16) _ e4);
       height = ltb-true _ _ e5;
     }
+
+-- And those of its place.
+pub place-bounds : (fill start : ℕ) → (leb fill 32 && ltb start 2147483648) ≡ true → (fill ≤ 32) × (start < 2147483648)
+place-bounds fill start e = (leb-true _ _ (and-fst (leb fill 32) _ e), ltb-true _ _ (and-snd (leb fill 32) _ e))
 
 -- A whole item at a stage that is known: where the tables stay, and in general.
 pub item-at : {x : Reader} (c : Core) (t : Tables) (stage : Stage) → c .stage ≡ stage

@@ -1,10 +1,7 @@
 -- Abbreviations of the private contracts.
 use Prim.Native.Nat.{ℕ, _+_, _≤_, _<_}
 use mathlib.Core.Bool.{Bool, true, false, _&&_}
-use mathlib.Core.List.{List}
 use lib.Dec.{ltb}
-use lib.ListN.{length}
-use lib.Seq.{sets}
 use Rattle.sha256.specs.Sha256.{sha256}
 use Rattle.params.specs.Parameters.{height}
 use Rattle.reader_model.specs.declared.Stage.{Stage}
@@ -12,7 +9,7 @@ use Rattle.reader_model.specs.declared.Stage.the-variants.{ParameterCount, Para
 use Rattle.reader_model.specs.declared.Core.{Core}
 use Rattle.reader_model.specs.declared.Tables.{Tables}
 use Rattle.reader_model.specs.declared.Reader.{Reader}
-use Rattle.reader_model.specs.State.{withWalk, withItem, movedTo}
+use Rattle.reader_model.specs.State.{withWalk, movedTo}
 use Rattle.reader_model.specs.Items.{sane, atHeight, climbed, dispatched, kept}
 
 -- The bounds of a sane state, as facts.
@@ -23,10 +20,6 @@ pub record Sane (c : Core) : Type 0 where
   pub query : c .cursor .query < 128
   pub layer : c .cursor .layer < 16
   pub height : c .cursor .height < 32
-
--- The small part with more bytes of its item.
-abbrev pub held : Core → List ℕ → Core
-held c bytes = withItem c (sets (c .item) (c .fill) bytes) (c .fill + length bytes)
 
 -- The state after a whole item of a sane state.
 abbrev pub afterItem : Core → Tables → Reader

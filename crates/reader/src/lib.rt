@@ -14,11 +14,12 @@ ghost use Rattle.sha256.specs.Sha256.{sha256};
 ghost use Rattle.reader_model.specs.State.{itemLength, tables, whole};
 ghost use Rattle.reader_model.specs.Items.{advanced};
 ghost use Rattle.answer.specs.Table.{accepted, too-few-bytes};
-ghost use Rattle.reader_model.specs.Model.{isTail, fed, started, replied, pieced, ended, opened};
-ghost use Rattle.reader.specs.Private.{Sane, held, afterItem};
+ghost use Rattle.reader_model.specs.Model.{isTail, fed, started, replied, pieced, buffer, holding, ended, opened};
+ghost use Rattle.reader.specs.Private.{Sane, afterItem};
 use answer::Answer;
 use params::Params;
 use reader_model::Core;
+use reader_model::Hold;
 use reader_model::Progress;
 use reader_model::Reader;
 use reader_model::Reply;
@@ -80,7 +81,7 @@ fn least(a: usize, b: usize) -> usize
 }
 
 // The first n bytes of a piece go into the item's buffer, from index at on.
-fn gather(item: &mut [u8; 32], at: usize, bytes: &[u8], n: usize)
+fn copy(item: &mut [u8; 32], at: usize, bytes: &[u8], n: usize)
     requires { ⌜ (at + n ≤ 32) × (n ≤ length (now bytes)) ⌝ }
     ensures { λ _. ⌜ now (item .exit) ≡ sets (now (item .entry)) at (take n (now (bytes .entry))) ⌝ }
 {
@@ -88,6 +89,18 @@ fn gather(item: &mut [u8; 32], at: usize, bytes: &[u8], n: usize)
     while i < n {
         item[at + i] = bytes[i];
         i += 1;
+    }
+}
+
+// The same. One byte is stored, since a run is copied by a call.
+fn gather(item: &mut [u8; 32], at: usize, bytes: &[u8], n: usize)
+    requires { ⌜ (at + n ≤ 32) × (n ≤ length (now bytes)) ⌝ }
+    ensures { λ _. ⌜ now (item .exit) ≡ sets (now (item .entry)) at (take n (now (bytes .entry))) ⌝ }
+{
+    if n == 1 {
+        item[at] = bytes[0];
+    } else {
+        copy(item, at, bytes, n);
     }
 }
 
@@ -126,47 +139,6 @@ fn feed(
     c
 }
 
-// Whether a piece of n bytes ends inside the current item, so that nothing is decided.
-fn ends_inside(c: Core, n: usize) -> bool
-    ensures { λ r. ⌜ r ≡ ltb (c .fill + n) (itemLength (c .stage)) ⌝ }
-{
-    let stage = c.stage;
-    let need = state::item_length(stage);
-    if n < need { c.fill < need - n } else { false }
-}
-
-// A piece that ends inside the current item: its bytes go into the buffer.
-fn hold(core: Core, bytes: &[u8]) -> Core
-    requires { ⌜ core .fill + length (now bytes) < itemLength (core .stage) ⌝ }
-    ensures { λ r. ⌜ r ≡ held core (now (bytes .entry)) ⌝ }
-{
-    let mut c = core;
-    let fill = c.fill;
-    let length = bytes.len();
-    gather(&mut c.item, fill, bytes, length);
-    c.fill = fill + length;
-    c
-}
-
-// The state after a piece. Small pieces are common where bytes come off the wire; no item has more than 32 bytes, so a longer piece ends inside none.
-fn next(
-    core: Core,
-    roots: &mut [u8; 512],
-    challenges: &mut [u32; 16],
-    coefficients: &mut [u32; 64],
-    bytes: &[u8],
-) -> Core
-    ensures { λ r. ⌜ whole r (now (roots .exit)) (now (challenges .exit)) (now (coefficients .exit)) ≡ fed sha256 (whole core (now (roots .entry)) (now (challenges .entry)) (now (coefficients .entry))) (now (bytes .entry)) ⌝ }
-{
-    if bytes.len() < 32 {
-        if ends_inside(core, bytes.len()) {
-            return hold(core, bytes);
-        }
-        return feed(core, roots, challenges, coefficients, bytes);
-    }
-    feed(core, roots, challenges, coefficients, bytes)
-}
-
 // A piece: its answer, and the small part of the state after it; the tables are lent and changed in place.
 pub fn piece_in_place(
     core: Core,
@@ -177,11 +149,44 @@ pub fn piece_in_place(
 ) -> Progress
     ensures { λ r. ⌜ replied (r .answer) (r .core) (now (roots .exit)) (now (challenges .exit)) (now (coefficients .exit)) ≡ pieced sha256 (whole core (now (roots .entry)) (now (challenges .entry)) (now (coefficients .entry))) (now (bytes .entry)) ⌝ }
 {
-    let next = next(core, roots, challenges, coefficients, bytes);
+    let next = feed(core, roots, challenges, coefficients, bytes);
     let answer = state::answer_of(next, answer::OPEN);
     Progress {
         answer: answer,
         core: next,
+    }
+}
+
+// Whether a piece of n bytes ends inside the current item, so that nothing is decided.
+fn ends_inside(stage: Stage, fill: usize, n: usize) -> bool
+    ensures { λ r. ⌜ r ≡ ltb (fill + n) (itemLength stage) ⌝ }
+{
+    let need = state::item_length(stage);
+    if n < need { fill < need - n } else { false }
+}
+
+// A piece that ends inside the current item touches nothing but the item's buffer, which is lent. Small pieces are common where bytes come off the wire.
+// Any other piece is not held: the fill stays as it was.
+pub fn hold(stage: Stage, start: u32, fill: usize, item: &mut [u8; 32], bytes: &[u8]) -> Hold
+    ensures { λ r. ⌜ buffer r (now (item .exit)) ≡ holding stage start fill (now (item .entry)) (now (bytes .entry)) ⌝ }
+{
+    let length = bytes.len();
+    if ends_inside(stage, fill, length) {
+        gather(item, fill, bytes, length);
+        let filled = fill + length;
+        let answer = state::open_answer(answer::OPEN, start, filled);
+        Hold {
+            answer: answer,
+            fill: filled,
+        }
+    } else {
+        Hold {
+            answer: Answer {
+                number: answer::OPEN,
+                place: 0,
+            },
+            fill: fill,
+        }
     }
 }
 

@@ -4,7 +4,7 @@ ghost use Prim.Native.Nat.{_+_, _<_};
 ghost use Rattle.answer.specs.Table.{answered};
 ghost use Rattle.reader_model.specs.State.{itemLength, noCursor, noWalk, noTables, stopped, closedState, movedTo};
 ghost use Rattle.reader_model.specs.Items.{sane, refused};
-ghost use Rattle.reader_model.specs.Model.{isStopped, isTail, answerOf};
+ghost use Rattle.reader_model.specs.Model.{isStopped, isTail, openAnswer, answerOf};
 ghost use Rattle.reader.specs.Private.{isSibling};
 use answer::Answer;
 use params::Params;
@@ -216,16 +216,12 @@ pub fn refuse(c: Core, number: u8) -> Core
     halt(number, place)
 }
 
-// The answer of a reader in this state, where an open one answers with this number.
-pub fn answer_of(c: Core, number: u8) -> Answer
-    ensures { λ r. ⌜ r ≡ answerOf c number ⌝ }
+// The answer of a reader that is not stopped, of its item's start and fill.
+pub fn open_answer(number: u8, start: u32, fill: usize) -> Answer
+    ensures { λ r. ⌜ r ≡ openAnswer number start fill ⌝ }
 {
-    let stage = c.stage;
-    if is_stopped(stage) {
-        return c.answer;
-    }
-    if is_sane(c) {
-        let place = c.cursor.start + c.fill as u32;
+    if (fill <= 32) & (start < 2147483648) {
+        let place = start + fill as u32;
         Answer {
             number: number,
             place: place,
@@ -236,4 +232,15 @@ pub fn answer_of(c: Core, number: u8) -> Answer
             place: 0,
         }
     }
+}
+
+// The answer of a reader in this state, where an open one answers with this number.
+pub fn answer_of(c: Core, number: u8) -> Answer
+    ensures { λ r. ⌜ r ≡ answerOf c number ⌝ }
+{
+    let stage = c.stage;
+    if is_stopped(stage) {
+        return c.answer;
+    }
+    open_answer(number, c.cursor.start, c.fill)
 }

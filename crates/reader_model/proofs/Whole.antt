@@ -11,7 +11,7 @@ use lib.ListN.{length, take, set, length-set}
 use lib.Seq.{take-all, take-suc-set, length-take-le}
 use borrow.Author.Tests.{lt-ltb, le-ltb, le-leb, ltb-true, ltb-false}
 use Rattle.answer.specs.declared.Answer.{Answer}
-use Rattle.answer.specs.Table.{answered, accepted, closed, too-few-bytes, byte-after-the-end}
+use Rattle.answer.specs.Table.{answered, open-so-far, accepted, closed, too-few-bytes, byte-after-the-end}
 use Rattle.message.specs.Bytes.{joined}
 use Rattle.message.specs.Message.{Digest}
 use Rattle.message.proofs.Bytes.{Sized}
@@ -35,7 +35,7 @@ use Rattle.reader_model.specs.declared.Tables.{Tables}
 use Rattle.reader_model.specs.declared.Reader.{Reader}
 use Rattle.reader_model.specs.State.{itemLength, stopped, closedState, place}
 use Rattle.reader_model.specs.Items.{sane, refused, finals, afterCount, afterQueryCount, dispatched, kept, advanced}
-use Rattle.reader_model.specs.Model.{stored, step, fed, isStopped, isTail, answerOf, pieced, ended, started}
+use Rattle.reader_model.specs.Model.{stored, step, fed, isStopped, isTail, openAnswer, answerOf, pieced, ended, started}
 use Rattle.reader_model.proofs.Filled.{challenges}
 use Rattle.reader_model.proofs.Rest.{counting, withParameters, toSection3, toSection4, toQueries, judgement-is, Sound, Waiting, At, parameter-count, parameters, root-count, root, coefficient-count, coefficient, query-count, first, second, sibling, After, goes, stops}
 use Rattle.reader_model.proofs.Rest
@@ -66,6 +66,11 @@ sane-is c s h l =
       lt-ltb (c .cursor .layer) 16 (s .layer-low),
       lt-ltb (c .cursor .height) 32 (s .height-low),
     )
+
+-- And its place is the answer's.
+open-is : (number : ℕ) (c : Core) → c .fill ≤ 32 → c .cursor .start < 2147483648 → openAnswer number (c .cursor .start) (c .fill) ≡ answered number (place c)
+unfolding openAnswer
+open-is number c h l = rw (le-leb (c .fill) 32 h, lt-ltb (c .cursor .start) 2147483648 l)
 
 -- A stage that waits for an item of this many bytes.
 record Waits (g : Stage) (u : ℕ) : Type 0 where
@@ -263,20 +268,20 @@ module _ (hash : List ℕ → Digest) (context : List ℕ) where
   unfolding pieced fed answerOf outcome pieceAnswer
   said {r} (reads {u} s a h l e w few) =
       let here = waits hash context (r .core .stage) u a in
-      rw (here .not-stopped, sane-is (r .core) s (omega arith) (omega arith), e)
+      rw (here .not-stopped, open-is open-so-far (r .core) (omega arith) (omega arith), e)
   said {r} (whole {d} s tail none e few) =
       let there : place (r .core) ≡ d = omega arith in
-      rw (sane-is (r .core) s (omega arith) (omega arith), tail, there)
+      rw (tail, open-is open-so-far (r .core) (omega arith) (omega arith), there)
   said (refusing e) = rw e
 
   end-said : {r : Reader} {q : Process} {d : ℕ} {held : List ℕ} → Stands hash context r q held d → endsWith r ≡ endAnswer (outcome q [] d) d
   unfolding ended answerOf outcome endAnswer
   end-said {r} (reads {u} {d = d} s a h l e w few) =
       let here = waits hash context (r .core .stage) u a in
-      rw (here .not-stopped, sane-is (r .core) s (omega arith) (omega arith), e) (ap (λ b. answered (cond b accepted too-few-bytes) d) (here .not-tail))
+      rw (here .not-stopped, open-is _ (r .core) (omega arith) (omega arith), e) (ap (λ b. answered (cond b accepted too-few-bytes) d) (here .not-tail))
   end-said {r} (whole {d} s tail none e few) =
       let there : place (r .core) ≡ d = omega arith in
-      rw (sane-is (r .core) s (omega arith) (omega arith), tail, there)
+      rw (tail, open-is accepted (r .core) (omega arith) (omega arith), there)
   end-said (refusing e) = rw e
 
   -- A state that is reached: it stands for something, and after any bytes for something else.

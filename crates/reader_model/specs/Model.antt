@@ -1,9 +1,10 @@
 -- The reader's calls: one byte, a piece, the opening and the end call.
 use Prim.Native.Nat.{ℕ, _+_}
-use mathlib.Core.Bool.{Bool, true, false, cond}
+use mathlib.Core.Bool.{Bool, true, false, cond, _&&_}
 use mathlib.Core.List.{List, foldl}
-use lib.ListN.{set, replicate}
-use lib.Dec.{ltb}
+use lib.ListN.{length, set, replicate}
+use lib.Seq.{sets}
+use lib.Dec.{leb, ltb}
 use Rattle.answer.specs.declared.Answer.{Answer}
 use Rattle.answer.specs.Table.{answered, open-so-far, accepted, closed, parameters-not-valid, too-few-bytes}
 use Rattle.message.specs.Message.{Digest}
@@ -12,11 +13,12 @@ use Rattle.params.specs.Parameters.{header, valid}
 use Rattle.transcript.specs.Transcript.{start}
 use Rattle.reader_model.specs.declared.Stage.{Stage}
 use Rattle.reader_model.specs.declared.Stage.the-variants.{ParameterCount, Parameters, RootCount, Root, CoefficientCount, Coefficient, QueryCount, First, Second, Sibling, Tail, Stopped}
+use Rattle.reader_model.specs.declared.Hold.{Hold}
 use Rattle.reader_model.specs.declared.Core.{Core}
 use Rattle.reader_model.specs.declared.Reader.{Reader}
 use Rattle.reader_model.specs.declared.Reply.{Reply}
-use Rattle.reader_model.specs.State.{itemLength, whole, place, withCore, withItem, closedState, noCursor, noWalk, noTables}
-use Rattle.reader_model.specs.Items.{advanced, sane}
+use Rattle.reader_model.specs.State.{itemLength, whole, withCore, withItem, closedState, noCursor, noWalk, noTables}
+use Rattle.reader_model.specs.Items.{advanced}
 
 -- One byte more of the current item.
 abbrev pub stored : Reader → ℕ → Reader
@@ -61,10 +63,14 @@ isTail Sibling = false
 isTail Tail = true
 isTail Stopped = false
 
+-- The answer of a reader that is not stopped, of its item's start and fill: this number at the bytes so far. A state whose place is out of bounds is made
+-- by no call.
+unfoldable pub openAnswer : ℕ → ℕ → ℕ → Answer
+openAnswer number start fill = cond (leb fill 32 && ltb start 2147483648) (answered number (start + fill)) (answered closed 0)
+
 -- The answer of a reader in this state, where an open one answers with this number: a stopped reader keeps its answer.
 unfoldable pub answerOf : Core → ℕ → Answer
-answerOf c number =
-    cond (isStopped (c .stage)) (c .answer) (cond (sane c) (answered number (place c)) (answered closed 0))
+answerOf c number = cond (isStopped (c .stage)) (c .answer) (openAnswer number (c .cursor .start) (c .fill))
 
 -- A reply put together from its parts.
 abbrev pub replied : Answer → Core → List ℕ → List ℕ → List ℕ → Reply
@@ -73,6 +79,26 @@ replied a c roots challenges coefficients = record { answer = a; state = whole c
 -- A piece: the answer and the state that it leaves.
 unfoldable pub pieced : (List ℕ → Digest) → Reader → List ℕ → Reply
 pieced hash r piece = record { answer = answerOf (fed hash r piece .core) open-so-far; state = fed hash r piece }
+
+-- What a piece that ends inside the current item does, of the parts of the state that it touches: its bytes go into the item's buffer. Any other piece
+-- is not held: the buffer and its fill stay.
+pub record Buffer : Type 0 where
+  pub answer : Answer
+  pub fill : ℕ
+  pub item : List ℕ
+
+abbrev pub buffer : Hold → List ℕ → Buffer
+buffer h item = record { answer = h .answer; fill = h .fill; item = item }
+
+unfoldable pub holding : Stage → ℕ → ℕ → List ℕ → List ℕ → Buffer
+holding stage start fill item piece =
+    cond (ltb (fill + length piece) (itemLength stage))
+    (record {
+      answer = openAnswer open-so-far start (fill + length piece);
+      fill = fill + length piece;
+      item = sets item fill piece;
+    })
+    (record { answer = answered open-so-far 0; fill = fill; item = item })
 
 -- The end call: 1 for a whole file, else 26; a stopped reader's own answer. It leaves the closed state.
 unfoldable pub ended : Reader → Reply

@@ -78,3 +78,9 @@ pub struct Progress {
     pub answer: Answer,
     pub core: Core,
 }
+
+// What a piece that ends inside the current item gives: its answer, and the bytes of the item that are there now.
+pub struct Hold {
+    pub answer: Answer,
+    pub fill: usize,
+}

@@ -18,17 +18,19 @@ sub-result c = search needs
 
 returns : tie.Need-returns
 returns c =
-    let core = c .before .before .before .args .c in
-    let n = c .before .before .before .args .n in
-    let short : n < itemLength (core .stage) = omega (arith, c .before .before .item-length .ensures) in
-    ap (λ need. ltb (core .fill) (need - n)) (c .before .before .item-length .ensures) ∙ ends-inside-test (core .fill) n (itemLength (core .stage)) short
+    let stage = c .before .before .args .stage in
+    let fill = c .before .before .args .fill in
+    let n = c .before .before .args .n in
+    let short : n < itemLength stage = omega (arith, c .before .item-length .ensures) in
+    ap (λ need. ltb fill (need - n)) (c .before .item-length .ensures) ∙ ends-inside-test fill n (itemLength stage) short
 
 returns-2 : tie.Need-returns-2
 returns-2 c =
-    let core = c .before .before .args .c in
+    let stage = c .before .before .args .stage in
+    let fill = c .before .before .args .fill in
     let n = c .before .before .args .n in
-    let long : itemLength (core .stage) ≤ n = omega (arith, c .before .item-length .ensures) in
-    too-long-test (core .fill) n (itemLength (core .stage)) long
+    let long : itemLength stage ≤ n = omega (arith, c .before .item-length .ensures) in
+    too-long-test fill n (itemLength stage) long
 
 pub ends-inside-spec : {M : Type 1} → statement M
 ends-inside-spec = tie.close (tie.spec item-length-requires sub-result returns returns-2)

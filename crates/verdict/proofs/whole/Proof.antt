@@ -1,25 +1,31 @@
 -- `verdict::whole` meets its contract: open, one piece and the end call give the verdict.
 -- Assumes nothing.
 use borrow.Author.Needs.{needs}
-use Rattle.verdict.proofs.Laws.{piece-state, valid-verdict, refused-verdict}
+use Rattle.verdict.proofs.Laws.{fed-whole, valid-outcome, refused-outcome}
 use Rattle.verdict.proofs.whole.Statement.{statement}
 use Rattle.verdict.proofs.whole.Tie as tie
 
+open-requires : tie.Need-open-requires
+open-requires c κs = search needs
+
+is-valid-requires : tie.Need-is-valid-requires
+is-valid-requires c κs = search needs
+
+read-requires : tie.Need-read-requires
+read-requires c κs = search needs
+
+end-requires : tie.Need-end-requires
+end-requires c κs = search needs
+
 returns : tie.Need-returns
 returns c =
-    valid-verdict _ _ _ (c .before .before .before .before .before .before .is-valid .ensures) (c .before .before .before .before .before .if1 .taken) (c .before .before .before .before .before .before .before .«open» .ensures) (piece-state _ _ (c .before .before .before .piece .ensures))
-    (c .before .end .ensures)
+    let test = c .before .before .before .before .before .before .before .before .before .before .before .before .before .before .before .before .before .before .before .before in
+    valid-outcome _ _ _ (test .before .is-valid .ensures) (test .if1 .taken) (test .before .before .«open» .ensures) (fed-whole _ _ (c .before .before .before .before .before .before .before .before .before .before .read .ensures)) (c .end .ensures)
 
 returns-2 : tie.Need-returns-2
-returns-2 c = refused-verdict _ _ _ (c .before .before .is-valid .ensures) (c .before .if1 .left) (c .before .before .before .«open» .ensures)
+returns-2 c = refused-outcome _ _ _ (c .before .is-valid .ensures) (c .if1 .left) (c .before .before .«open» .ensures)
 
 pub whole-spec : {M : Type 1} → statement M
 whole-spec =
     tie.close
-    (tie.spec
-    (λ c κs. search needs)
-    (λ c κs. search needs)
-    (λ c κs. search needs)
-    (λ c κs. search needs)
-    returns
-    returns-2)
+    (tie.spec open-requires is-valid-requires read-requires end-requires returns returns-2)

@@ -1,3 +1,0 @@
--- A state survives the way out to the caller and back, so the calls through the boundary answer as the reader's own.
-pub mod Laws
-pub mod Through

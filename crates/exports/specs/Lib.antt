@@ -1,2 +1,0 @@
--- What the exported calls answer, as definitions over the reader's model.
-pub mod Boundary

@@ -1,0 +1,75 @@
+-- A list of calls made through the boundary gets exactly the reader's answers. Assumes nothing.
+use Prim.Native.Nat.{ℕ}
+use mathlib.Core.Bool.{true}
+use mathlib.Core.List.{List, [], _∷_}
+use mathlib.Core.Path.{_≡_, refl, ap, _∙_}
+use Rattle.message.specs.Message.{Digest}
+use Rattle.params.specs.declared.Params.{Params}
+use Rattle.params.specs.Parameters.{Valid}
+use Rattle.fri.specs.Judge.{verdict}
+use Rattle.answer.specs.Table.{answered, open-so-far}
+use Rattle.calls.specs.Calls.{Call, piece, end, endsOnce, joined, answers, given, lastOr, lastGiven}
+use Rattle.reader_model.specs.declared.Stage.{Stage}
+use Rattle.reader_model.specs.declared.Stage.the-variants.{ParameterCount, Parameters, RootCount, Root, CoefficientCount, Coefficient, QueryCount, First, Second, Sibling, Tail, Stopped}
+use Rattle.reader_model.specs.declared.Reader.{Reader}
+use Rattle.reader_model.specs.declared.Reply.{Reply}
+use Rattle.reader_model.specs.Model.{opened, pieced, ended}
+use Rattle.reader_model.specs.Claim.{reader}
+use Rattle.reader_model.proofs.Theorem.{claim}
+use Rattle.lent_reader.specs.Held.{Held, Outcome, numberOf, stageOf, smallOf, coreOf, readerOf, heldOf, outcomeOf, boundary}
+
+-- A reader's state survives the way out and back, in all its fields.
+stage-round : (stage : Stage) → stageOf (numberOf stage) ≡ stage
+unfolding stageOf
+stage-round ParameterCount = refl
+stage-round Parameters = refl
+stage-round RootCount = refl
+stage-round Root = refl
+stage-round CoefficientCount = refl
+stage-round Coefficient = refl
+stage-round QueryCount = refl
+stage-round First = refl
+stage-round Second = refl
+stage-round Sibling = refl
+stage-round Tail = refl
+stage-round Stopped = refl
+
+pub round-trip : (r : Reader) → readerOf (heldOf r) ≡ r
+unfolding coreOf heldOf smallOf
+round-trip r = rw (stage-round (r .core .stage))
+
+-- What a call leaves is the reply's state, and what it answers the reply's answer.
+pub left-by : {x : Outcome} (y : Reply) → x ≡ outcomeOf y → readerOf (x .held) ≡ y .state
+unfolding outcomeOf
+left-by {x} y e = ap (λ (o : Outcome). readerOf (o .held)) e ∙ round-trip (y .state)
+
+pub answered-by : {x : Outcome} (y : Reply) → x ≡ outcomeOf y → x .answer ≡ y .answer
+unfolding outcomeOf
+answered-by y e = ap (λ (o : Outcome). o .answer) e
+
+module _ (hash : List ℕ → Digest) (p : Params) (context : List ℕ) where
+  after : (x : Reader) (cs : List Call) → answers (boundary hash p context) (heldOf x) cs ≡ answers (reader hash p context) (readerOf (heldOf x)) cs
+      → answers (boundary hash p context) (heldOf x) cs ≡ answers (reader hash p context) x cs
+  after x cs e = e ∙ ap (λ r. answers (reader hash p context) r cs) (round-trip x)
+
+  -- From any state on, one that no call made too, the answers are the reader's from the state that it stands for.
+  pub from-any-state : (h : Held) (cs : List Call) → answers (boundary hash p context) h cs ≡ answers (reader hash p context) (readerOf h) cs
+  unfolding outcomeOf
+  from-any-state h [] = refl
+  from-any-state h (piece bytes ∷ cs) =
+      let reply = pieced hash (readerOf h) bytes in
+      ap (λ more. reply .answer ∷ more) (after (reply .state) cs (from-any-state (heldOf (reply .state)) cs))
+  from-any-state h (end ∷ cs) =
+      let reply = ended (readerOf h) in
+      ap (λ more. reply .answer ∷ more) (after (reply .state) cs (from-any-state (heldOf (reply .state)) cs))
+
+  -- From the state that the opening left on.
+  pub through-the-boundary : (cs : List Call) → given (boundary hash p context) cs ≡ given (reader hash p context) cs
+  unfolding outcomeOf
+  through-the-boundary cs =
+      let first = opened hash p context .state in
+      after first cs (from-any-state (heldOf first) cs)
+
+  -- So the last answer, to an end call, is the verdict on the bytes joined.
+  pub verdict-through : Valid p → (cs : List Call) → endsOnce cs ≡ true → lastGiven (boundary hash p context) cs ≡ verdict hash p context (joined cs)
+  verdict-through v cs e = ap (lastOr (answered open-so-far 0)) (through-the-boundary cs) ∙ claim .opened hash p context cs v .verdicts e

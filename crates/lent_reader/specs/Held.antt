@@ -1,0 +1,135 @@
+-- The state as a caller holds it, numbers only, and the reader's state that it stands for. The stage is a number: 1 to 11 in the file's order, and every
+-- other number is a stopped reader.
+use Prim.Native.Nat.{ℕ}
+use mathlib.Core.Bool.{cond}
+use mathlib.Core.List.{List, [], _∷_}
+use lib.ListN.{getD}
+use lib.Dec.{eqb}
+use Rattle.message.specs.Message.{Digest}
+use Rattle.answer.specs.declared.Answer.{Answer}
+use Rattle.params.specs.declared.Params.{Params}
+use Rattle.calls.specs.Calls.{Reader as Calls}
+use Rattle.reader_model.specs.declared.Stage.{Stage}
+use Rattle.reader_model.specs.declared.Stage.the-variants.{ParameterCount, Parameters, RootCount, Root, CoefficientCount, Coefficient, QueryCount, First, Second, Sibling, Tail, Stopped}
+use Rattle.reader_model.specs.declared.Core.{Core}
+use Rattle.reader_model.specs.declared.Tables.{Tables}
+use Rattle.reader_model.specs.declared.Reader.{Reader}
+use Rattle.reader_model.specs.declared.Reply.{Reply}
+use Rattle.reader_model.specs.Model.{opened, pieced, ended}
+
+abbrev pub numberOf : Stage → ℕ
+numberOf Stopped = 0
+numberOf ParameterCount = 1
+numberOf Parameters = 2
+numberOf RootCount = 3
+numberOf Root = 4
+numberOf CoefficientCount = 5
+numberOf Coefficient = 6
+numberOf QueryCount = 7
+numberOf First = 8
+numberOf Second = 9
+numberOf Sibling = 10
+numberOf Tail = 11
+
+unfoldable pub stageOf : ℕ → Stage
+stageOf number =
+    cond (eqb number 1) ParameterCount
+    (cond (eqb number 2) Parameters
+    (cond (eqb number 3) RootCount
+    (cond (eqb number 4) Root
+    (cond (eqb number 5) CoefficientCount
+    (cond (eqb number 6) Coefficient
+    (cond (eqb number 7) QueryCount
+    (cond (eqb number 8) First
+    (cond (eqb number 9) Second
+    (cond (eqb number 10) Sibling
+    (cond (eqb number 11) Tail Stopped))))))))))
+
+-- The small part: its numbers of one, four and eight bytes, and its three runs of 32 bytes.
+pub record Small : Type 0 where
+  pub marks : List ℕ
+  pub words : List ℕ
+  pub counts : List ℕ
+  pub item : List ℕ
+  pub node : List ℕ
+  pub transcript : List ℕ
+
+abbrev pub small : List ℕ → List ℕ → List ℕ → List ℕ → List ℕ → List ℕ → Small
+small marks words counts item node transcript = record { marks = marks; words = words; counts = counts; item = item; node = node; transcript = transcript }
+
+unfoldable pub smallOf : Core → Small
+smallOf c = record {
+  marks = numberOf (c .stage) ∷ c .params .n ∷ c .params .b ∷ c .params .k ∷ c .params .q ∷ c .cursor .query ∷ c .cursor .layer ∷ c .cursor .height ∷ c .answer .number ∷ [];
+  words = c .cursor .start ∷ c .walk .index ∷ c .walk .position ∷ c .walk .first ∷ c .walk .scale ∷ c .walk .folded ∷ c .answer .place ∷ [];
+  counts = c .fill ∷ c .cursor .coefficient ∷ [];
+  item = c .item;
+  node = c .walk .node;
+  transcript = c .transcript;
+}
+
+unfoldable pub coreOf : Small → Core
+coreOf s = record {
+  stage = stageOf (getD (s .marks) 0 0);
+  answer = record { number = getD (s .marks) 8 0; place = getD (s .words) 6 0 };
+  fill = getD (s .counts) 0 0;
+  item = s .item;
+  params = record { n = getD (s .marks) 1 0; b = getD (s .marks) 2 0; k = getD (s .marks) 3 0; q = getD (s .marks) 4 0 };
+  cursor = record {
+    start = getD (s .words) 0 0;
+    coefficient = getD (s .counts) 1 0;
+    query = getD (s .marks) 5 0;
+    layer = getD (s .marks) 6 0;
+    height = getD (s .marks) 7 0;
+  };
+  walk = record {
+    index = getD (s .words) 1 0;
+    position = getD (s .words) 2 0;
+    first = getD (s .words) 3 0;
+    scale = getD (s .words) 4 0;
+    folded = getD (s .words) 5 0;
+    node = s .node;
+  };
+  transcript = s .transcript;
+}
+
+-- What a caller holds between two calls: the small part and the tables, all of it lent.
+pub record Held : Type 0 where
+  pub small : Small
+  pub tables : Tables
+
+abbrev pub held : List ℕ → List ℕ → List ℕ → List ℕ → List ℕ → List ℕ → List ℕ → List ℕ → List ℕ → Held
+held marks words counts item node transcript roots challenges coefficients = record {
+  small = small marks words counts item node transcript;
+  tables = record { roots = roots; challenges = challenges; coefficients = coefficients };
+}
+
+unfoldable pub heldOf : Reader → Held
+heldOf r = record { small = smallOf (r .core); tables = r .tables }
+
+abbrev pub readerOf : Held → Reader
+readerOf h = record { core = coreOf (h .small); tables = h .tables }
+
+-- What a call gives: its answer, and what the caller holds after it.
+pub record Outcome : Type 0 where
+  pub answer : Answer
+  pub held : Held
+
+-- Of what is returned and what is left in the arrays; and of the reader's reply.
+abbrev pub outcome : Answer → List ℕ → List ℕ → List ℕ → List ℕ → List ℕ → List ℕ → List ℕ → List ℕ → List ℕ → Outcome
+outcome answer marks words counts item node transcript roots challenges coefficients = record {
+  answer = answer;
+  held = held marks words counts item node transcript roots challenges coefficients;
+}
+
+unfoldable pub outcomeOf : Reply → Outcome
+outcomeOf r = record { answer = r .answer; held = heldOf (r .state) }
+
+-- The reader as a caller has it, whose states are the caller's: the calls equal these, each by its contract.
+abbrev pub boundary : (List ℕ → Digest) → Params → List ℕ → Calls Held
+boundary hash p context = record {
+  opened = outcomeOf (opened hash p context) .held;
+  pieceNext = λ h bytes. outcomeOf (pieced hash (readerOf h) bytes) .held;
+  pieceAnswer = λ h bytes. outcomeOf (pieced hash (readerOf h) bytes) .answer;
+  endNext = λ h. outcomeOf (ended (readerOf h)) .held;
+  endAnswer = λ h. outcomeOf (ended (readerOf h)) .answer;
+}
