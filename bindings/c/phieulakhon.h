@@ -56,37 +56,14 @@ struct phieulakhon_params {
     uint8_t n, b, k, q;
 };
 
-/* The small part of a reader, plain data. Its fields are for the calls only. */
-struct phieulakhon_state {
-    uint8_t stage;
-    struct phieulakhon_answer answer;
-    size_t fill;
-    uint8_t item[32];
-    struct phieulakhon_params params;
-    struct {
-        uint32_t start;
-        size_t coefficient;
-        uint8_t query, layer, height;
-    } cursor;
-    struct {
-        uint32_t index, position, first, scale, folded;
-        uint8_t node[32];
-    } walk;
-    uint8_t transcript[32];
-};
-
-/* What a call on a reader's parts gives: its answer, and the small part for the next call. */
-struct phieulakhon_turn {
-    struct phieulakhon_answer answer;
-    struct phieulakhon_state state;
-};
-
-/* A reader, about 1 KiB that the caller keeps wherever it likes. Its fields are for the calls only. A reader of zeros answers 0 at 0 to every call. */
+/* A reader, about 1 KiB of plain numbers that the caller keeps wherever it likes. Its fields are for the calls only. A reader of zeros answers 0 at 0
+ * to every call. */
 struct phieulakhon_reader {
-    struct phieulakhon_state state;
-    uint8_t roots[512];
-    uint32_t challenges[16];
-    uint32_t coefficients[64];
+    uint8_t marks[9];
+    uint32_t words[7];
+    size_t counts[2];
+    uint8_t item[32], node[32], transcript[32], roots[512];
+    uint32_t challenges[16], coefficients[64];
 };
 
 /* Where a look-up found an opening: its answer, and the part of the proof. */
@@ -102,34 +79,31 @@ struct phieulakhon_answer phieulakhon_verdict(struct phieulakhon_params p, const
 /* The length of every file that can be accepted with these parameters; 0 where they are not valid. */
 size_t phieulakhon_file_length(struct phieulakhon_params p);
 
-/* The proved calls of a reader, on its parts: the small part goes in and comes back by value, the tables are changed in place. The three calls below
- * them put the parts together, and are all that a C program needs. */
-struct phieulakhon_turn phieulakhon_open(struct phieulakhon_params p, const uint8_t context[32], uint8_t roots[512], uint32_t challenges[16],
-                                         uint32_t coefficients[64]);
-struct phieulakhon_turn phieulakhon_piece(struct phieulakhon_state s, uint8_t roots[512], uint32_t challenges[16], uint32_t coefficients[64],
-                                          const uint8_t *bytes, size_t length);
-struct phieulakhon_turn phieulakhon_end(struct phieulakhon_state s, uint8_t roots[512], uint32_t challenges[16], uint32_t coefficients[64]);
+/* The proved calls of a reader, on its arrays, which they change in place. The three calls below them take a reader whole, and are all that a C
+ * program needs. */
+struct phieulakhon_answer phieulakhon_open(struct phieulakhon_params p, const uint8_t context[32], uint8_t marks[9], uint32_t words[7], size_t counts[2],
+                                           uint8_t item[32], uint8_t node[32], uint8_t transcript[32], uint8_t roots[512], uint32_t challenges[16],
+                                           uint32_t coefficients[64]);
+struct phieulakhon_answer phieulakhon_piece(uint8_t marks[9], uint32_t words[7], size_t counts[2], uint8_t item[32], const uint8_t *bytes, size_t length,
+                                            uint8_t node[32], uint8_t transcript[32], uint8_t roots[512], uint32_t challenges[16],
+                                            uint32_t coefficients[64]);
+struct phieulakhon_answer phieulakhon_end(uint8_t marks[9], uint32_t words[7], size_t counts[2], uint8_t item[32], uint8_t node[32],
+                                          uint8_t transcript[32], uint8_t roots[512], uint32_t challenges[16], uint32_t coefficients[64]);
 
 /* Opens a reader, whatever was in its memory: 0 at 0, or 10 at 0 where the parameters are not valid, and then the reader is closed. */
 static inline struct phieulakhon_answer phieulakhon_reader_open(struct phieulakhon_reader *r, struct phieulakhon_params p, const uint8_t context[32]) {
-    struct phieulakhon_turn turn = phieulakhon_open(p, context, r->roots, r->challenges, r->coefficients);
-    r->state = turn.state;
-    return turn.answer;
+    return phieulakhon_open(p, context, r->marks, r->words, r->counts, r->item, r->node, r->transcript, r->roots, r->challenges, r->coefficients);
 }
 
 /* Feeds the next bytes of the file, as many as there are at hand: 0 at the bytes so far, or the refusal. A refused reader stays refused, with the
  * same answer to every later piece and to the end call, so that a caller may stop at the first number other than 0. */
 static inline struct phieulakhon_answer phieulakhon_reader_feed(struct phieulakhon_reader *r, const uint8_t *bytes, size_t length) {
-    struct phieulakhon_turn turn = phieulakhon_piece(r->state, r->roots, r->challenges, r->coefficients, bytes, length);
-    r->state = turn.state;
-    return turn.answer;
+    return phieulakhon_piece(r->marks, r->words, r->counts, r->item, bytes, length, r->node, r->transcript, r->roots, r->challenges, r->coefficients);
 }
 
 /* Ends the file: 1 at its length, or the refusal. It leaves the closed reader, which answers 11 at 0 to every call. */
 static inline struct phieulakhon_answer phieulakhon_reader_end(struct phieulakhon_reader *r) {
-    struct phieulakhon_turn turn = phieulakhon_end(r->state, r->roots, r->challenges, r->coefficients);
-    r->state = turn.state;
-    return turn.answer;
+    return phieulakhon_end(r->marks, r->words, r->counts, r->item, r->node, r->transcript, r->roots, r->challenges, r->coefficients);
 }
 
 /* Where the opening of a query in a layer, two values and the siblings, stands in a proof of that length: 0 at 0 and `length` bytes from `start` on;

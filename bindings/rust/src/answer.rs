@@ -100,6 +100,7 @@ pub enum Refusal {
 }
 
 impl Refusal {
+    #[cold]
     fn of(answer: Answer) -> Refusal {
         let place = answer.place;
         match answer.number {
@@ -155,6 +156,7 @@ impl fmt::Display for Refusal {
 impl Error for Refusal {}
 
 /// The answer to an opening or a piece: the bytes so far.
+#[inline]
 pub fn so_far(answer: Answer) -> Result<u32, Refusal> {
     if answer.number == OPEN {
         Ok(answer.place)

@@ -2,7 +2,7 @@
 //! bindings/c/phieulakhon.h, field by field.
 //!
 //! Each call's contract has no `requires`, so every state is an argument that it takes. It reads
-//! the bytes lent to it, writes nothing but the tables, and keeps nothing.
+//! the bytes lent to it, writes nothing but the reader's arrays, and keeps nothing.
 #![allow(unsafe_code)]
 
 use crate::Params;
@@ -14,52 +14,16 @@ pub struct Answer {
     pub place: u32,
 }
 
-#[repr(C)]
-#[derive(Clone, Copy)]
-struct Cursor {
-    start: u32,
-    coefficient: usize,
-    query: u8,
-    layer: u8,
-    height: u8,
-}
-
-#[repr(C)]
-#[derive(Clone, Copy)]
-struct Walk {
-    index: u32,
-    position: u32,
-    first: u32,
-    scale: u32,
-    folded: u32,
-    node: [u8; 32],
-}
-
-#[repr(C)]
-#[derive(Clone, Copy)]
-struct State {
-    stage: u8,
-    answer: Answer,
-    fill: usize,
-    item: [u8; 32],
-    params: Params,
-    cursor: Cursor,
-    walk: Walk,
-    transcript: [u8; 32],
-}
-
-#[repr(C)]
-struct Turn {
-    answer: Answer,
-    state: State,
-}
-
-/// A reader between two calls: the state goes to each call by value and comes back from it, the
-/// tables are lent to it and changed in place.
+/// A reader between two calls: arrays of numbers, lent to each call and changed in place.
 #[repr(C)]
 #[derive(Clone)]
 pub struct Held {
-    state: State,
+    marks: [u8; 9],
+    words: [u32; 7],
+    counts: [usize; 2],
+    item: [u8; 32],
+    node: [u8; 32],
+    transcript: [u8; 32],
     roots: [u8; 512],
     challenges: [u32; 16],
     coefficients: [u32; 64],
@@ -84,24 +48,40 @@ extern "C" {
     fn phieulakhon_open(
         p: Params,
         context: *const [u8; 32],
+        marks: *mut [u8; 9],
+        words: *mut [u32; 7],
+        counts: *mut [usize; 2],
+        item: *mut [u8; 32],
+        node: *mut [u8; 32],
+        transcript: *mut [u8; 32],
         roots: *mut [u8; 512],
         challenges: *mut [u32; 16],
         coefficients: *mut [u32; 64],
-    ) -> Turn;
+    ) -> Answer;
     fn phieulakhon_piece(
-        s: State,
-        roots: *mut [u8; 512],
-        challenges: *mut [u32; 16],
-        coefficients: *mut [u32; 64],
+        marks: *mut [u8; 9],
+        words: *mut [u32; 7],
+        counts: *mut [usize; 2],
+        item: *mut [u8; 32],
         bytes: *const u8,
         length: usize,
-    ) -> Turn;
-    fn phieulakhon_end(
-        s: State,
+        node: *mut [u8; 32],
+        transcript: *mut [u8; 32],
         roots: *mut [u8; 512],
         challenges: *mut [u32; 16],
         coefficients: *mut [u32; 64],
-    ) -> Turn;
+    ) -> Answer;
+    fn phieulakhon_end(
+        marks: *mut [u8; 9],
+        words: *mut [u32; 7],
+        counts: *mut [usize; 2],
+        item: *mut [u8; 32],
+        node: *mut [u8; 32],
+        transcript: *mut [u8; 32],
+        roots: *mut [u8; 512],
+        challenges: *mut [u32; 16],
+        coefficients: *mut [u32; 64],
+    ) -> Answer;
     fn phieulakhon_look_up(p: Params, length: usize, query: usize, layer: usize) -> Span;
 }
 
@@ -117,48 +97,74 @@ pub fn file_length(p: Params) -> usize {
 }
 
 pub fn open(p: Params, context: &[u8; 32]) -> (Answer, Held) {
-    let (mut roots, mut challenges, mut coefficients) = ([0; 512], [0; 16], [0; 64]);
-    // SAFETY: the callee reads the 32 bytes and writes the tables that are lent to it.
-    let turn =
-        unsafe { phieulakhon_open(p, context, &mut roots, &mut challenges, &mut coefficients) };
-    let held = Held {
-        state: turn.state,
-        roots,
-        challenges,
-        coefficients,
+    let mut held = Held {
+        marks: [0; 9],
+        words: [0; 7],
+        counts: [0; 2],
+        item: [0; 32],
+        node: [0; 32],
+        transcript: [0; 32],
+        roots: [0; 512],
+        challenges: [0; 16],
+        coefficients: [0; 64],
     };
-    (turn.answer, held)
-}
-
-pub fn piece(held: &mut Held, bytes: &[u8]) -> Answer {
-    // SAFETY: the state is plain numbers, by value. The callee reads the `bytes.len()` bytes and
-    // reads and writes the tables that are lent to it; nobody else can reach them meanwhile.
-    let turn = unsafe {
-        phieulakhon_piece(
-            held.state,
+    // SAFETY: the callee reads the 32 bytes and writes the arrays that are lent to it.
+    let answer = unsafe {
+        phieulakhon_open(
+            p,
+            context,
+            &mut held.marks,
+            &mut held.words,
+            &mut held.counts,
+            &mut held.item,
+            &mut held.node,
+            &mut held.transcript,
             &mut held.roots,
             &mut held.challenges,
             &mut held.coefficients,
-            bytes.as_ptr(),
-            bytes.len(),
         )
     };
-    held.state = turn.state;
-    turn.answer
+    (answer, held)
+}
+
+// A caller may feed single bytes, so nothing but the proved call itself stands between.
+#[inline]
+pub fn piece(held: &mut Held, bytes: &[u8]) -> Answer {
+    // SAFETY: whatever numbers the arrays have, the callee takes them. It reads the `bytes.len()`
+    // bytes and reads and writes the arrays that are lent to it; nobody else can reach them
+    // meanwhile.
+    unsafe {
+        phieulakhon_piece(
+            &mut held.marks,
+            &mut held.words,
+            &mut held.counts,
+            &mut held.item,
+            bytes.as_ptr(),
+            bytes.len(),
+            &mut held.node,
+            &mut held.transcript,
+            &mut held.roots,
+            &mut held.challenges,
+            &mut held.coefficients,
+        )
+    }
 }
 
 pub fn end(held: &mut Held) -> Answer {
     // SAFETY: as for a piece.
-    let turn = unsafe {
+    unsafe {
         phieulakhon_end(
-            held.state,
+            &mut held.marks,
+            &mut held.words,
+            &mut held.counts,
+            &mut held.item,
+            &mut held.node,
+            &mut held.transcript,
             &mut held.roots,
             &mut held.challenges,
             &mut held.coefficients,
         )
-    };
-    held.state = turn.state;
-    turn.answer
+    }
 }
 
 pub fn look_up(p: Params, length: usize, query: usize, layer: usize) -> Span {
@@ -208,19 +214,19 @@ mod tests {
         for turn in 0..30_000 {
             let mut h = held(std::array::from_fn(|_| random(seed) as u8));
             if turn % 3 > 0 {
-                let s = &mut h.state;
-                // A stage that there is, and numbers near the bounds of a state that a call leaves.
-                s.stage = (random(seed) % 13) as u8;
-                s.fill = (random(seed) % 34) as usize;
-                s.cursor.coefficient = (random(seed) % 66) as usize;
-                s.cursor.start = if turn % 3 == 1 {
+                // A stage that there is, and a fill and a cursor near the bounds of those that a
+                // call leaves.
+                h.marks[0] = (random(seed) % 13) as u8;
+                h.counts[0] = (random(seed) % 34) as usize;
+                h.counts[1] = (random(seed) % 66) as usize;
+                h.words[0] = if turn % 3 == 1 {
                     random(seed) as u32 % 4
                 } else {
                     u32::MAX - random(seed) as u32 % 4
                 };
-                s.cursor.query %= 130;
-                s.cursor.layer %= 17;
-                s.cursor.height %= 33;
+                h.marks[5] %= 130;
+                h.marks[6] %= 17;
+                h.marks[7] %= 33;
             }
             all_calls_return(h, &bytes[..random(seed) as usize % 200]);
         }
@@ -291,8 +297,6 @@ mod tests {
         let sizes = [
             size_of::<Params>(),
             size_of::<Answer>(),
-            size_of::<State>(),
-            size_of::<Turn>(),
             size_of::<Span>(),
             size_of::<Held>(),
         ];
@@ -301,13 +305,9 @@ mod tests {
         rows! {
             Params: n, b, k, q;
             Answer: number, place;
-            Turn: answer, state;
             Span: number, place, start, length;
-            State: stage, answer, fill, item, params;
-            State: cursor.start, cursor.coefficient, cursor.query, cursor.layer, cursor.height;
-            State: walk.index, walk.position, walk.first, walk.scale, walk.folded, walk.node;
-            State: transcript;
-            Held: state, roots, challenges, coefficients;
+            Held: marks, words, counts, item, node, transcript;
+            Held: roots, challenges, coefficients;
         }
         assert_eq!(ours, String::from_utf8(said).unwrap());
     }

@@ -39,6 +39,7 @@ impl Reader {
 
     /// Feeds the next bytes of the file, and gives the count of bytes so far. A refused reader
     /// stays refused, with the same refusal from every later call.
+    #[inline]
     pub fn feed(&mut self, bytes: &[u8]) -> Result<u32, Refusal> {
         so_far(ffi::piece(&mut self.held, bytes))
     }
