@@ -255,18 +255,14 @@ fn folds(table: &mut Table, rng: &mut Rng) {
 
 type Verdict = unsafe extern "C" fn(Params, &Digest, *const u8, usize, usize) -> Answer;
 
-/// The ordinary verifier has the whole slice; ours is fed in pieces of `size` bytes.
+/// Pieces are of `size` bytes, for the sides that are fed in pieces.
 fn verdict_batch(
-    ours: Verdict,
+    sides: Sides<Verdict>,
     params: Params,
     context: Digest,
     file: Vec<u8>,
     size: usize,
 ) -> Batch {
-    let sides = Sides::<Verdict> {
-        ours,
-        peer: peers::verdict,
-    };
     Batch::each(
         sides,
         vec![file],
@@ -308,7 +304,22 @@ fn hashing_batch(params: Params) -> Batch {
 /// and what the largest takes beside its hashing.
 fn verdicts(table: &mut Table, rng: &mut Rng) {
     const WHOLE: usize = usize::MAX;
-    let ours = ours::test_verdict_in_pieces;
+    let whole_slice = Sides::<Verdict> {
+        ours: ours::test_verdict_in_pieces,
+        peer: peers::verdict,
+    };
+    let in_pieces = Sides::<Verdict> {
+        peer: peers::verdict_in_pieces,
+        ..whole_slice
+    };
+    let binding = Sides::<Verdict> {
+        ours: ours::binding_in_pieces,
+        peer: peers::verdict_by_calls,
+    };
+    let binding_inlined = Sides::<Verdict> {
+        ours: ours::binding_in_pieces,
+        ..in_pieces
+    };
     let sizes = [
         [6, 2, 2, 8],
         [10, 2, 4, 16],
@@ -324,22 +335,34 @@ fn verdicts(table: &mut Table, rng: &mut Rng) {
         let context = rng.digest();
         // Most of a large proof's time is building it, so its polynomial is short.
         let file = proof::build(params, &context, &rng.elements(3));
-        let name = format!("verdict {n},{b},{k},{q} ({} bytes) in one piece", file.len());
-        let batch = verdict_batch(ours, params, context, file.clone(), WHOLE);
+        let name = format!(
+            "verdict {n},{b},{k},{q} ({} bytes) in one piece",
+            file.len()
+        );
+        let batch = verdict_batch(whole_slice, params, context, file.clone(), WHOLE);
         table.growing(name, file.len(), batch);
         largest = Some((params, context, file));
     }
     let (params, context, file) = largest.expect("there are sizes");
     let cuts = [(4096, "4,096 bytes"), (64, "64 bytes"), (1, "one byte")];
-    let binding = ours::binding_in_pieces;
-    for (call, way) in [(ours as Verdict, ""), (binding, " through the binding")] {
+    for (sides, way, other) in [
+        (in_pieces, "", ""),
+        (binding, " through the binding", ""),
+        (binding_inlined, " through the binding", "; Rust inlined"),
+        (whole_slice, "", "; Rust with the whole slice"),
+    ] {
         for (size, cut) in cuts {
-            let batch = verdict_batch(call, params, context, file.clone(), size);
-            table.row(format!("the last{way}, in pieces of {cut}"), batch);
+            let batch = verdict_batch(sides, params, context, file.clone(), size);
+            table.row(format!("the last{way}, in pieces of {cut}{other}"), batch);
         }
     }
-    let verdict = || verdict_batch(ours, params, context, file.clone(), WHOLE);
+    let verdict = || verdict_batch(whole_slice, params, context, file.clone(), WHOLE);
     let hashing = || hashing_batch(params);
     table.overhead("the last, over its hashing alone", verdict(), hashing());
-    table.rest("the last, a byte read, without its hashing", file.len(), verdict(), hashing());
+    table.rest(
+        "the last, a byte read, without its hashing",
+        file.len(),
+        verdict(),
+        hashing(),
+    );
 }

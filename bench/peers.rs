@@ -24,13 +24,15 @@ pub mod proof;
 pub mod rng;
 #[path = "../tests/independent/sha256.rs"]
 pub mod sha256;
+pub mod streaming;
 #[path = "../tests/independent/transcript.rs"]
 pub mod transcript;
 
-use answer::Answer;
+use answer::{Answer, OPEN};
 use field::P;
 use params::Params;
 use sha256::{public_hash, Digest};
+use streaming::Reader;
 use transcript::Transcript;
 
 /// Coefficients are lent as a whole array, with a count of those that matter.
@@ -147,4 +149,56 @@ pub unsafe extern "C" fn verdict(
 ) -> Answer {
     let proof = unsafe { std::slice::from_raw_parts(proof, len) };
     judge::verdict(params, context, proof)
+}
+
+/// The verifier fed in pieces of `size` bytes, one byte at least.
+/// The proof must be readable for `len` bytes.
+#[inline(never)]
+pub unsafe extern "C" fn verdict_in_pieces(
+    params: Params,
+    context: &Digest,
+    proof: *const u8,
+    len: usize,
+    size: usize,
+) -> Answer {
+    let proof = unsafe { std::slice::from_raw_parts(proof, len) };
+    let (opening, mut reader) = Reader::open(params, context);
+    if opening.number != OPEN {
+        return opening;
+    }
+    for piece in proof.chunks(size.max(1)) {
+        reader.feed(piece);
+    }
+    reader.finish()
+}
+
+/// One piece, by a call that no caller can see into, as a linked library's is.
+/// The bytes must be readable for `len` bytes.
+#[inline(never)]
+unsafe extern "C" fn feed(reader: &mut Reader, bytes: *const u8, len: usize) -> Answer {
+    reader.feed(unsafe { std::slice::from_raw_parts(bytes, len) })
+}
+
+/// The same with one such call for each piece, whose answer the caller acts on.
+/// The proof must be readable for `len` bytes.
+#[inline(never)]
+pub unsafe extern "C" fn verdict_by_calls(
+    params: Params,
+    context: &Digest,
+    proof: *const u8,
+    len: usize,
+    size: usize,
+) -> Answer {
+    let proof = unsafe { std::slice::from_raw_parts(proof, len) };
+    let (opening, mut reader) = Reader::open(params, context);
+    if opening.number != OPEN {
+        return opening;
+    }
+    for piece in proof.chunks(size.max(1)) {
+        let answer = unsafe { feed(&mut reader, piece.as_ptr(), piece.len()) };
+        if answer.number != OPEN {
+            return answer;
+        }
+    }
+    reader.finish()
 }
