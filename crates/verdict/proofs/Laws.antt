@@ -19,14 +19,19 @@ use Rattle.lent_reader.specs.Held.{Outcome, readerOf, outcomeOf}
 use Rattle.lent_reader.proofs.Through.{left-by, answered-by}
 use Rattle.reader_model.proofs.Theorem.{fed-append, verdict-fed, verdict-refused}
 
-valid-verdict : {b : Bool} (p : Params) (context bytes : List ℕ) {start end : Reply} {last : Reader} → b ≡ valid p → b ≡ true
+-- The state that a piece leaves.
+pub piece-state : (r : Reader) (bytes : List ℕ) {reply : Reply} → reply ≡ pieced sha256 r bytes → reply .state ≡ fed sha256 r bytes
+unfolding pieced
+piece-state r bytes e = ap (λ (x : Reply). x .state) e
+
+pub valid-verdict : {b : Bool} (p : Params) (context bytes : List ℕ) {start end : Reply} {last : Reader} → b ≡ valid p → b ≡ true
     → start ≡ opened sha256 p context → last ≡ fed sha256 (start .state) bytes → end ≡ ended last → end .answer ≡ verdict sha256 p context bytes
 valid-verdict p context bytes d t e f g =
     ap (λ (x : Reply). x .answer) g
     ∙ ap (λ (x : Reader). ended x .answer) (f ∙ ap (λ (x : Reply). fed sha256 (x .state) bytes) e)
     ∙ verdict-fed sha256 p context (valid-facts p (sym d ∙ t)) bytes
 
-refused-verdict : {b : Bool} (p : Params) (context bytes : List ℕ) {start : Reply} → b ≡ valid p → b ≡ false → start ≡ opened sha256 p context
+pub refused-verdict : {b : Bool} (p : Params) (context bytes : List ℕ) {start : Reply} → b ≡ valid p → b ≡ false → start ≡ opened sha256 p context
     → start .answer ≡ verdict sha256 p context bytes
 refused-verdict p context bytes d f e =
     ap (λ (x : Reply). x .answer) e
