@@ -85,8 +85,8 @@ examples =
     ∷ ((6 % half 4 1) ∷ named (parameters 4 1 2 1) 1 (6 % half 4 0) 1 2 ∷ [] is 2 ∷ 2 ∷ [])
     ∷ (one (6 % half 4 0 % half 4 1) is one 2)
     ∷ (height (parameters 4 1 2 1) 0 ∷ height (parameters 4 1 2 1) 1 ∷ [] is 3 ∷ 2 ∷ [])
-    -- bytes ff ff ff ff draw the challenge 1073741822
-    ∷ (one (challenge allOnes []) is one 1073741822)
+    -- eight bytes ff draw the challenge 1789569708
+    ∷ (one (challenge allOnes []) is one 1789569708)
     -- in a proof 00 00 00 c0 is a number, and 01 00 00 c0 gets 22 at its 4th byte
     ∷ (shown (asNumber (0 ∷ 0 ∷ 0 ∷ 192 ∷ [])) is 1 ∷ 4 ∷ [])
     ∷ (shown (asNumber (1 ∷ 0 ∷ 0 ∷ 192 ∷ [])) is 22 ∷ 4 ∷ [])

@@ -104,6 +104,23 @@ unfolding num
 num-four d h =
     rw (num-front d 0 3 (omega arith), num-front d 1 2 (omega arith), num-front d 2 1 (omega arith), num-front d 3 0 (omega arith)) (omega arith)
 
+-- The number in the first 8 bytes: the one in the first 4, and above it the one in the next 4.
+pub num-eight : (d : List ℕ) → 8 ≤ length d
+    → num (take 8 d) ≡ num (take 4 d) + 4294967296 * (getD d 4 0 + 256 * (getD d 5 0 + 256 * (getD d 6 0 + 256 * getD d 7 0)))
+unfolding num
+num-eight d h =
+    rw (
+      num-four d (omega arith),
+      num-front d 0 7 (omega arith),
+      num-front d 1 6 (omega arith),
+      num-front d 2 5 (omega arith),
+      num-front d 3 4 (omega arith),
+      num-front d 4 3 (omega arith),
+      num-front d 5 2 (omega arith),
+      num-front d 6 1 (omega arith),
+      num-front d 7 0 (omega arith),
+    ) (omega arith)
+
 -- The number in the first 2 bytes.
 pub num-two : (d : List ℕ) → 2 ≤ length d → num (take 2 d) ≡ getD d 0 0 + 256 * getD d 1 0
 unfolding num

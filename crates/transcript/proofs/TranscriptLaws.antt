@@ -26,7 +26,7 @@ pub tagged-finish : (s : Digest) (coefficients : List ℕ) → length s ≡ 32 �
 unfolding finish
 tagged-finish s coefficients h k = tagged-short 0x12 s (words coefficients) (omega (arith, words-length coefficients))
 
-pub tagged-challenge : {d : Digest} {v r : ℕ} (s : Digest) → length s ≡ 32 → d ≡ taggedHash 0x13 s [] → v ≡ num (take 4 d) → r ≡ v % p → r ≡ challenge sha256 s
+pub tagged-challenge : {d : Digest} {v r : ℕ} (s : Digest) → length s ≡ 32 → d ≡ taggedHash 0x13 s [] → v ≡ num (take 8 d) → r ≡ v % p → r ≡ challenge sha256 s
 unfolding challenge
 tagged-challenge s h e v r =
     let long : length s + 0 ≤ 288 = omega arith in
