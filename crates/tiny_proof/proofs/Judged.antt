@@ -31,32 +31,32 @@ point-0 : point 2 0 0 ≡ 5
 unfolding point
 point-0 = ap (mulMod (powMod 5 1)) (powMod-zero (subgroupGenerator 2)) ∙ times-one
 
-pub flipped : verdict sha256 parameters context (file 140) ≡ answered path-misses-root 88
+pub flipped : verdict sha256 parameters context (file 45) ≡ answered path-misses-root 88
 unfolding context file valid finalCount half num joined words le leaf node join climb start transcript.absorb challenge finish drawn absorbed agrees left outcome run pure _>>=_ _>>_ bytes ensure many sameBytes count number named walk queries sections judgement endAnswer verdict addMod subMod mulMod build shr rotr ch maj bigSigma0 bigSigma1 smallSigma0 smallSigma1 roundConstants initialHash zeros lengthByte pad word block nextWord extend schedule sum1 sum2 round rounds addWords compress absorb bytesOf sha256
 flipped = refl
 
 -- The last test of the file, with the point x of leaf 0 in layer 0 and the final polynomial's value v: 2·x·v = x·(a+c) + β·(a−c).
 abbrev last-test : ℕ → ℕ → Bool
-last-test x v = agrees (mulMod 2 x) (addMod (mulMod x (addMod 1368532109 324655246)) (mulMod 273286165 (subMod 1368532109 324655246))) v
+last-test x v = agrees (mulMod 2 x) (addMod (mulMod x (addMod 581943340 2147903023)) (mulMod 2855583235 (subMod 581943340 2147903023))) v
 
 -- Every byte is read, and this test is all that is left.
-read : left (judgement sha256 parameters context) (file 141) 0
-    ≡ left (ensure (last-test (point 2 0 0) (eval (575201726 ∷ []) (point 2 1 0))) misses-final-polynomial (λ _. done)) [] 88
+read : left (judgement sha256 parameters context) (file 44) 0
+    ≡ left (ensure (last-test (point 2 0 0) (eval (2956924926 ∷ []) (point 2 1 0))) misses-final-polynomial (λ _. done)) [] 88
 unfolding context file valid finalCount half num joined words le leaf node join climb start transcript.absorb challenge finish drawn absorbed agrees left outcome run pure _>>=_ _>>_ bytes ensure many sameBytes count number named walk queries sections judgement endAnswer verdict addMod subMod mulMod build shr rotr ch maj bigSigma0 bigSigma1 smallSigma0 smallSigma1 roundConstants initialHash zeros lengthByte pad word block nextWord extend schedule sum1 sum2 round rounds addWords compress absorb bytesOf sha256
 read = refl
 
-constant : (y : ℕ) → eval (575201726 ∷ []) y ≡ 575201726
+constant : (y : ℕ) → eval (2956924926 ∷ []) y ≡ 2956924926
 unfolding eval addMod
-constant y = ap (addMod 575201726) (mulMod-comm y 0 ∙ mulMod-zero y)
+constant y = ap (addMod 2956924926) (mulMod-comm y 0 ∙ mulMod-zero y)
 
-passes : last-test 5 575201726 ≡ true
+passes : last-test 5 2956924926 ≡ true
 unfolding agrees addMod subMod mulMod
 passes = refl
 
-test : last-test (point 2 0 0) (eval (575201726 ∷ []) (point 2 1 0)) ≡ true
+test : last-test (point 2 0 0) (eval (2956924926 ∷ []) (point 2 1 0)) ≡ true
 test = ap₂ last-test point-0 (constant (point 2 1 0)) ∙ passes
 
-pub whole : verdict sha256 parameters context (file 141) ≡ answered accepted 88
+pub whole : verdict sha256 parameters context (file 44) ≡ answered accepted 88
 unfolding verdict valid file run outcome left ensure endAnswer
 whole =
     ap (λ l. endAnswer (outcome (l .process) (l .held) (l .place)) 88) (read ∙ ap (λ b. left (ensure b misses-final-polynomial (λ _. done)) [] 88) test)
