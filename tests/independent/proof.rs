@@ -45,12 +45,14 @@ pub fn build_altered(
     Forger::default().build(params, context, polynomial, alter)
 }
 
-/// A prover that may stray from the document in the order of its steps; by
-/// default it does not.
+/// A prover that may stray from the document in some of its steps; by default
+/// it does not.
 #[derive(Default)]
 pub struct Forger {
     /// Draws each challenge before it absorbs the layer's root.
     pub challenges_first: bool,
+    /// Draws each challenge from 4 bytes, the rule before request 2026-01.
+    pub narrow_challenges: bool,
     /// Opens this leaf of layer 0 for every query, whichever is drawn.
     pub leaf: Option<u32>,
 }
@@ -70,17 +72,21 @@ impl Forger {
 
         let mut polynomial = polynomial.to_vec();
         polynomial.resize(full_size, 0);
+        let challenge_of = match self.narrow_challenges {
+            true => Transcript::narrow_challenge,
+            false => Transcript::challenge,
+        };
         let mut transcript = Transcript::start(params, context);
         let mut layers = Vec::new();
         for j in 0..params.k {
             let mut values = layer_values(&polynomial, params.n, j);
             alter(j, &mut values);
             let layer = Layer::new(values);
-            let early_challenge = transcript.challenge();
+            let early_challenge = challenge_of(&transcript);
             transcript.absorb_root(&layer.tree.root());
             let challenge = match self.challenges_first {
                 true => early_challenge,
-                false => transcript.challenge(),
+                false => challenge_of(&transcript),
             };
             polynomial = fold_coefficients(&polynomial, challenge);
             layers.push(layer);
@@ -259,5 +265,21 @@ mod tests {
         let first_root = 8 + 32;
         assert_eq!(early[..first_root], honest[..first_root]);
         assert_ne!(early[first_root..][..32], honest[first_root..][..32]);
+
+        let narrow = forged(Forger {
+            narrow_challenges: true,
+            ..Forger::default()
+        });
+        assert_eq!(narrow[..first_root], honest[..first_root]);
+        assert_ne!(narrow[first_root..][..32], honest[first_root..][..32]);
+        assert_ne!(narrow[first_root..][..32], early[first_root..][..32]);
+        let mut transcript = Transcript::start(params, &context);
+        let mut folded = polynomial.clone();
+        for root in narrow[8..][..64].chunks(32) {
+            transcript.absorb_root(root.try_into().unwrap());
+            folded = fold_coefficients(&folded, transcript.narrow_challenge());
+        }
+        let coefficients: Vec<u8> = folded.into_iter().flat_map(u32::to_le_bytes).collect();
+        assert_eq!(narrow[8 + 64 + 2..][..coefficients.len()], coefficients);
     }
 }

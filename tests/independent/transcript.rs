@@ -34,9 +34,18 @@ impl Transcript {
     }
 
     pub fn challenge(&self) -> u32 {
+        to_challenge(&self.challenge_digest())
+    }
+
+    /// The challenge by the rule before request 2026-01: from 4 bytes.
+    pub fn narrow_challenge(&self) -> u32 {
+        first_number(&self.challenge_digest()) % P
+    }
+
+    fn challenge_digest(&self) -> Digest {
         let mut message = [CHALLENGE_TAG; 33];
         message[1..].copy_from_slice(&self.state);
-        to_challenge(&sha256(&message))
+        sha256(&message)
     }
 
     pub fn absorb_final(&mut self, coefficients: &[u32]) {
@@ -58,10 +67,13 @@ impl Transcript {
     }
 }
 
+/// From the first 8 bytes: 4 would give some numbers twice as often as others.
 fn to_challenge(digest: &Digest) -> u32 {
-    first_number(digest) % P
+    let first = digest[..8].try_into().expect("8 bytes");
+    (u64::from_le_bytes(first) % P as u64) as u32
 }
 
+/// The first 4 bytes: a query's index is reduced by a power of two.
 fn first_number(digest: &Digest) -> u32 {
     u32::from_le_bytes([digest[0], digest[1], digest[2], digest[3]])
 }
@@ -72,7 +84,60 @@ mod tests {
 
     #[test]
     fn example_of_the_document() {
-        assert_eq!(to_challenge(&[0xff; 32]), 1073741822);
+        let mut digest = [0x5a; 32];
+        digest[..8].fill(0xff);
+        assert_eq!(to_challenge(&digest), 1789569708);
+    }
+
+    /// Literal numbers, computed elsewhere: 4 bytes of the first digest would
+    /// draw 67305985, 7 bytes 66692261, 9 bytes 2035218955, and the 8 with the
+    /// high byte first 1135477507.
+    #[test]
+    fn a_challenge_is_8_bytes_low_byte_first() {
+        let counting: Digest = std::array::from_fn(|place| place as u8 + 1);
+        assert_eq!(to_challenge(&counting), 2035218939);
+
+        // What a 1 at each place draws: 256^place modulo p, and nothing from
+        // the ninth byte on.
+        let powers = [
+            1, 256, 65536, 16777216, 1073741823, 1073741483, 1073654443, 1051372203,
+        ];
+        for place in 0..32 {
+            let mut digest = [0; 32];
+            digest[place] = 1;
+            let drawn = powers.get(place).copied().unwrap_or(0);
+            assert_eq!(to_challenge(&digest), drawn, "{place}");
+        }
+
+        // Reduced modulo p: p - 1, p and 2^32 as 8 bytes.
+        for (first, drawn) in [
+            ([0x00, 0x00, 0x00, 0xc0, 0, 0, 0, 0], 3221225472),
+            ([0x01, 0x00, 0x00, 0xc0, 0, 0, 0, 0], 0),
+            ([0x00, 0x00, 0x00, 0x00, 1, 0, 0, 0], 1073741823),
+        ] {
+            let mut digest = [0x5a; 32];
+            digest[..8].copy_from_slice(&first);
+            assert_eq!(to_challenge(&digest), drawn);
+        }
+    }
+
+    /// The domain has at most 2^20 points, so that only the first 3 of the 4
+    /// bytes reach a query's leaf.
+    #[test]
+    fn a_query_is_4_bytes_low_byte_first() {
+        let counting: Digest = std::array::from_fn(|place| place as u8 + 1);
+        assert_eq!(first_number(&counting), 0x04030201);
+
+        let transcript = Transcript { state: [9; 32] };
+        for n in 2..=20 {
+            let params = Params::new(n, 1, 1, 64);
+            for query in 0..64 {
+                let drawn = sha256(&[&[0x14][..], &[9; 32], &[query]].concat());
+                let [low, middle, high] = [0, 1, 2].map(|place| drawn[place] as u32);
+                let number = low + 256 * middle + 65536 * high;
+                assert_eq!(transcript.draw(params, query), number % (1 << (n - 1)));
+            }
+        }
     }
 
     #[test]
@@ -87,8 +152,10 @@ mod tests {
         assert_eq!(transcript.state, state);
 
         let drawn = sha256(&[&[0x13][..], &state].concat());
+        let value = u64::from_le_bytes(drawn[..8].try_into().unwrap());
+        assert_eq!(transcript.challenge() as u64, value % 3221225473);
         let value = u32::from_le_bytes(drawn[..4].try_into().unwrap());
-        assert_eq!(transcript.challenge(), (value as u64 % 3221225473) as u32);
+        assert_eq!(transcript.narrow_challenge(), value % 3221225473);
         assert_eq!(transcript.state, state);
 
         transcript.absorb_final(&[1, 0x01020304]);

@@ -199,8 +199,10 @@ fn follow(recipe: &mut Recipe) -> Vec<u8> {
     let context = [recipe.byte(); 32];
     let count = recipe.below((1 << (n - b)) + 1);
     let polynomial: Vec<u32> = (0..count).map(|_| recipe.element()).collect();
+    let challenges = recipe.byte();
     let forger = Forger {
-        challenges_first: recipe.byte() == 1,
+        challenges_first: matches!(challenges, 1 | 3),
+        narrow_challenges: matches!(challenges, 2 | 3),
         leaf: match recipe.byte() {
             0 => None,
             leaf => Some((leaf as u32 - 1) % (1 << (n - 1))),

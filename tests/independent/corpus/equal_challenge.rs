@@ -14,7 +14,7 @@ pub fn proof() -> Proof {
 }
 
 /// Found by `find`.
-const CONTEXT: u64 = 55_055_470;
+const CONTEXT: u64 = 30_515_099;
 
 const PARAMS: Params = Params {
     n: 8,
@@ -59,7 +59,7 @@ fn first_challenge(context: &Digest, root: &Digest) -> u32 {
 }
 
 /// Searches the contexts from the given one on for a proof in which layer 0's
-/// challenge is the point of an opened leaf: about one in 50 million is.
+/// challenge is the point of an opened leaf: about one in 64 million is.
 pub fn find(start: u64) -> u64 {
     let Params { n, .. } = PARAMS;
     let proof = proof_in_context(start);

@@ -278,6 +278,16 @@ impl Corpus {
             "every challenge is drawn before its root is absorbed",
             Proof::forged(&forger, params, 16, |_, _| {}).job(),
         );
+        let forger = Forger {
+            narrow_challenges: true,
+            ..Forger::default()
+        };
+        self.add(
+            24,
+            "challenges_from_4_bytes",
+            "every challenge is drawn from 4 bytes: good by the rule before request 2026-01",
+            Proof::forged(&forger, params, 16, |_, _| {}).job(),
+        );
     }
 
     /// The paths and folds are right, and the chains end elsewhere.
