@@ -282,4 +282,20 @@ mod tests {
         let coefficients: Vec<u8> = folded.into_iter().flat_map(u32::to_le_bytes).collect();
         assert_eq!(narrow[8 + 64 + 2..][..coefficients.len()], coefficients);
     }
+
+    /// The fold of a constant takes nothing from the challenge, and challenges
+    /// are not absorbed: such a file is the same by either rule.
+    #[test]
+    fn a_constant_is_the_same_with_narrow_challenges() {
+        let mut rng = Rng::new(7);
+        let (params, context) = (Params::new(5, 1, 2, 4), rng.digest());
+        let forger = Forger {
+            narrow_challenges: true,
+            ..Forger::default()
+        };
+        for (polynomial, same) in [(vec![9], true), (vec![9, 1], false)] {
+            let narrow = forger.build(params, &context, &polynomial, |_, _| {});
+            assert_eq!(narrow == build(params, &context, &polynomial), same);
+        }
+    }
 }

@@ -1,22 +1,31 @@
--- How evenly challenges are drawn.
-use Prim.Native.Nat.{ℕ, zero, suc, _+_, _^_, _/_, _<_, _≤_}
+-- How evenly challenges and leaves are drawn, whatever the digest's other bytes are.
+use Prim.Native.Nat.{ℕ, zero, suc, _+_, _-_, _^_, _%_, _/_, _<_, _≤_}
 use mathlib.Core.Bool.{Bool, cond}
 use mathlib.Core.List.{_++_}
-use lib.Dec.{eqb}
+use mathlib.Core.Path.{_≡_}
+use lib.Dec.{eqb, ltb}
 use Rattle.field.specs.Modular.{p}
 use Rattle.message.specs.Bytes.{le}
 use Rattle.message.specs.Message.{Digest}
-use Rattle.transcript.specs.Transcript.{challenge}
+use Rattle.transcript.specs.Transcript.{challenge, drawn}
 
 -- How many of the numbers below n a test picks.
 unfoldable pub howMany : (ℕ → Bool) → ℕ → ℕ
 howMany picks zero = 0
 howMany picks (suc n) = cond (picks n) 1 0 + howMany picks n
 
--- Whether state s draws the challenge c where the digest begins with the 8 bytes of v.
+-- Whether a digest that begins with the 8 bytes of v makes c the challenge.
 unfoldable pub draws : Digest → Digest → ℕ → ℕ → Bool
 draws s rest c v = eqb (challenge (λ _. le 8 v ++ rest) s) c
 
--- Of all that 8 bytes can be, every number is drawn by as many as every other, give or take one in 5,726,623,059; whatever the digest's other bytes are.
-abbrev pub Even : Type 0
-Even = (s rest : Digest) (c : ℕ) → c < p → (2 ^ 64 / p ≤ howMany (draws s rest c) (2 ^ 64)) × (howMany (draws s rest c) (2 ^ 64) ≤ suc (2 ^ 64 / p))
+-- Whether a digest that begins with the 4 bytes of v makes m the leaf of query i.
+unfoldable pub opens : Digest → Digest → ℕ → ℕ → ℕ → ℕ → Bool
+opens s rest bits i m v = eqb (drawn (λ _. le 4 v ++ rest) s bits i) m
+
+-- Of the 2^64 values of 8 bytes, 2^64 / p draw each number below p, and one more draws a number below 2^64 % p.
+abbrev pub EvenChallenges : Type 0
+EvenChallenges = (s rest : Digest) (c : ℕ) → c < p → howMany (draws s rest c) (2 ^ 64) ≡ 2 ^ 64 / p + cond (ltb c (2 ^ 64 % p)) 1 0
+
+-- Of the 2^32 values of 4 bytes, equally many draw each leaf.
+abbrev pub EvenLeaves : Type 0
+EvenLeaves = (s rest : Digest) (bits i m : ℕ) → bits ≤ 32 → m < 2 ^ bits → howMany (opens s rest bits i m) (2 ^ 32) ≡ 2 ^ (32 - bits)
