@@ -15,7 +15,7 @@ use Rattle.message.specs.Bytes.{le, num}
 use Rattle.message.specs.Message.{Digest}
 use Rattle.message.proofs.Bytes.{le-length, num-le-below}
 use Rattle.transcript.specs.Transcript.{challenge, drawn}
-use Rattle.transcript.specs.Even.{howMany, draws, opens, EvenChallenges, EvenLeaves}
+use Rattle.transcript.specs.Even.{howMany, drawsChallenge, drawsLeaf, EvenChallenges, EvenLeaves}
 
 -- Tests that agree pick equally many.
 agree : (f g : ℕ → Bool) (n : ℕ) → ((v : ℕ) → v < n → f v ≡ g v) → howMany f n ≡ howMany g n
@@ -52,21 +52,21 @@ module _ (m c : ℕ) (h : c < m) where
   remainders k r l = further k (blocks k) r l
 
 -- The first bytes decide, as a number, and no other byte does.
-challenged : (s rest : Digest) (c v : ℕ) → v < 2 ^ 64 → draws s rest c v ≡ eqb (v % p) c
-unfolding draws challenge
+challenged : (s rest : Digest) (c v : ℕ) → v < 2 ^ 64 → drawsChallenge s rest c v ≡ eqb (v % p) c
+unfolding drawsChallenge challenge
 challenged s rest c v h = ap (λ u. eqb (num u % p) c) (take-at (le 8 v) rest 8 (le-length 8 v)) ∙ ap (λ u. eqb (u % p) c) (num-le-below 8 v h)
 
-opened : (s rest : Digest) (bits i m v : ℕ) → v < 2 ^ 32 → opens s rest bits i m v ≡ eqb (v % 2 ^ bits) m
-unfolding opens drawn
+opened : (s rest : Digest) (bits i m v : ℕ) → v < 2 ^ 32 → drawsLeaf s rest bits i m v ≡ eqb (v % 2 ^ bits) m
+unfolding drawsLeaf drawn
 opened s rest bits i m v h = ap (λ u. eqb (num u % 2 ^ bits) m) (take-at (le 4 v) rest 4 (le-length 4 v)) ∙ ap (λ u. eqb (u % 2 ^ bits) m) (num-le-below 4 v h)
 
 pub even-challenges : EvenChallenges
 even-challenges s rest c h =
-    agree (draws s rest c) (λ v. eqb (v % p) c) (2 ^ 64) (challenged s rest c) ∙ remainders p c h (2 ^ 64 / p) (2 ^ 64 % p) (omega arith)
+    agree (drawsChallenge s rest c) (λ v. eqb (v % p) c) (2 ^ 64) (challenged s rest c) ∙ remainders p c h (2 ^ 64 / p) (2 ^ 64 % p) (omega arith)
 
 pub even-leaves : EvenLeaves
 even-leaves s rest bits i m b h =
     let sizes : 2 ^ 32 ≡ 2 ^ bits * 2 ^ (32 - bits) = ap (λ e. 2 ^ e) {x = 32} {y = bits + (32 - bits)} (omega arith) ∙ pow-add 2 bits (32 - bits) in
-    agree (opens s rest bits i m) (λ v. eqb (v % 2 ^ bits) m) (2 ^ 32) (opened s rest bits i m)
+    agree (drawsLeaf s rest bits i m) (λ v. eqb (v % 2 ^ bits) m) (2 ^ 32) (opened s rest bits i m)
     ∙ ap (howMany (λ v. eqb (v % 2 ^ bits) m)) sizes
     ∙ blocks (2 ^ bits) m h (2 ^ (32 - bits))
