@@ -630,6 +630,26 @@ mod tests {
         }
     }
 
+    /// A file that was good before request 2026-01 has the right queries and
+    /// paths still: its folds alone fail.
+    #[test]
+    fn narrow_challenges_fail_in_folds_alone() {
+        let mut rng = Rng::new(21);
+        let forger = Forger {
+            narrow_challenges: true,
+            ..Forger::default()
+        };
+        for _ in 0..300 {
+            let params = random_params(&mut rng, 9);
+            let context = rng.digest();
+            let polynomial = rng.elements(1 << (params.n - params.b));
+            let bytes = forger.build(params, &context, &polynomial, |_, _| {});
+            let faults = all_faults(params, &context, &bytes);
+            assert!(faults.iter().all(|fault| matches!(fault.number, 24 | 25)));
+            assert!(matches!(both(params, &context, &bytes).number, 24 | 25));
+        }
+    }
+
     #[test]
     fn a_refusal_stays_the_same() {
         let mut rng = Rng::new(20);
