@@ -10,6 +10,7 @@ use peers::params::Params;
 use peers::proof;
 use peers::rng::Rng;
 use peers::sha256::Digest;
+use peers::writer;
 use peers::Coefficients;
 use table::{Batch, Sides, Table};
 
@@ -26,6 +27,7 @@ fn main() {
     evaluations(&mut table, &mut rng);
     folds(&mut table, &mut rng);
     verdicts(&mut table, &mut rng);
+    writings(&mut table, &mut rng);
 
     let mut wanted: Vec<String> = std::env::args().skip(1).collect();
     let plot = (wanted.first().map(String::as_str) == Some("--plot")).then(|| {
@@ -274,18 +276,24 @@ fn verdict_batch(
     )
 }
 
+/// The calls that hash, in the verdict and in the writer: a node, a leaf, and a
+/// challenge, which takes as long as the draw of a query.
+type Hashing = (
+    extern "C" fn(&Digest, &Digest, &mut Digest),
+    extern "C" fn(u32, u32, &mut Digest),
+    extern "C" fn(&Digest) -> u32,
+);
+
+const HASHING: Sides<Hashing> = Sides {
+    ours: (ours::test_node, ours::test_leaf, ours::test_challenge),
+    peer: (peers::node, peers::leaf, peers::challenge),
+};
+
 /// What a verdict hashes, and nothing else, as one call: the nodes of its paths,
-/// its leaves, and the draws of its queries, which take as long as a challenge.
+/// its leaves, and the draws of its queries.
 fn hashing_batch(params: Params) -> Batch {
-    type Node = extern "C" fn(&Digest, &Digest, &mut Digest);
-    type Leaf = extern "C" fn(u32, u32, &mut Digest);
-    type Draw = extern "C" fn(&Digest) -> u32;
-    let sides = Sides::<(Node, Leaf, Draw)> {
-        ours: (ours::test_node, ours::test_leaf, ours::test_challenge),
-        peer: (peers::node, peers::leaf, peers::challenge),
-    };
     let heights: Vec<usize> = (0..params.k).map(|layer| params.height(layer)).collect();
-    Batch::new(1, sides, NO_DIGEST, move |(node, leaf, draw), digest| {
+    Batch::new(1, HASHING, NO_DIGEST, move |(node, leaf, draw), digest| {
         let mut below = NO_DIGEST;
         for query in 0..params.q {
             below[0] ^= draw(&below) as u8;
@@ -365,4 +373,120 @@ fn verdicts(table: &mut Table, rng: &mut Rng) {
         verdict(),
         hashing(),
     );
+}
+
+type Write = unsafe extern "C" fn(
+    Params,
+    &Digest,
+    *const u32,
+    usize,
+    *mut u32,
+    usize,
+    *mut u8,
+    usize,
+    *mut u8,
+    usize,
+) -> Answer;
+
+/// What a writing answers and leaves in the lent buffers.
+#[derive(Clone, PartialEq, Debug)]
+struct Written {
+    answer: Answer,
+    output: Vec<u8>,
+    numbers: Vec<u32>,
+    bytes: Vec<u8>,
+}
+
+fn write_batch(
+    sides: Sides<Write>,
+    params: Params,
+    context: Digest,
+    coefficients: Vec<u32>,
+) -> Batch {
+    // Filled with a pattern, so that scratch that is left as it was is noticed.
+    let blank = Written {
+        answer: Answer::DONE,
+        output: vec![0xc3; params.file_length()],
+        numbers: vec![0xa5a5a5a5; writer::numbers_needed(params)],
+        bytes: vec![0x5a; writer::bytes_needed(params)],
+    };
+    Batch::new(1, sides, blank, move |call, written| {
+        let Written {
+            answer,
+            output,
+            numbers,
+            bytes,
+        } = written;
+        // Each pointer and the length after it are those of one slice.
+        *answer = unsafe {
+            call(
+                params,
+                &context,
+                coefficients.as_ptr(),
+                coefficients.len(),
+                numbers.as_mut_ptr(),
+                numbers.len(),
+                bytes.as_mut_ptr(),
+                bytes.len(),
+                output.as_mut_ptr(),
+                output.len(),
+            )
+        };
+    })
+}
+
+/// What a writer hashes, and nothing else, as one call: the trees of its layers,
+/// and the draws of its queries.
+fn trees_batch(params: Params) -> Batch {
+    let leaves: Vec<u32> = (0..params.k)
+        .map(|layer| 1 << params.height(layer))
+        .collect();
+    Batch::new(1, HASHING, NO_DIGEST, move |(node, leaf, draw), digest| {
+        let mut below = NO_DIGEST;
+        for &leaves in &leaves {
+            for index in 0..leaves {
+                leaf(index, leaves, digest);
+            }
+            for _ in 1..leaves {
+                below = *digest;
+                node(&below, &NO_DIGEST, digest);
+            }
+        }
+        for _ in 0..params.q {
+            below[0] ^= draw(&below) as u8;
+        }
+    })
+}
+
+/// The writer at a small size and at a larger one with ever more coefficients: at
+/// first it mostly hashes, at last it mostly evaluates.
+fn writings(table: &mut Table, rng: &mut Rng) {
+    let two_remainders = Sides::<Write> {
+        ours: ours::test_write,
+        peer: peers::write,
+    };
+    let one_remainder = Sides::<Write> {
+        peer: peers::write_by_one_remainder,
+        ..two_remainders
+    };
+    let ways = [
+        (two_remainders, ""),
+        (one_remainder, "; Rust with one remainder a step"),
+    ];
+    for [n, b, k, q] in [[6, 2, 2, 8], [10, 6, 4, 16], [10, 3, 5, 16], [10, 1, 5, 32]] {
+        let params = Params::new(n, b, k, q);
+        let context = rng.digest();
+        let coefficients = rng.elements(writer::coefficient_count(params));
+        let count = coefficients.len();
+        let name = format!("Write a proof, 2^{n} points, {count} coefficients");
+        let batch = |sides| write_batch(sides, params, context, coefficients.clone());
+        for (sides, way) in ways {
+            table.row(format!("{name}{way}"), batch(sides));
+        }
+        table.overhead(
+            format!("{name}, over its hashing alone"),
+            batch(two_remainders),
+            trees_batch(params),
+        );
+    }
 }

@@ -34,6 +34,20 @@ unsafe extern "C" {
         len: usize,
         size: usize,
     ) -> Answer;
+
+    /// Each pointer must be good for the length after it.
+    pub unsafe fn test_write(
+        params: Params,
+        context: &Digest,
+        coefficients: *const u32,
+        coefficients_len: usize,
+        numbers: *mut u32,
+        numbers_len: usize,
+        bytes: *mut u8,
+        bytes_len: usize,
+        output: *mut u8,
+        output_len: usize,
+    ) -> Answer;
 }
 
 /// The same as users have it: the exported calls, through the Rust binding.

@@ -27,6 +27,9 @@ pub mod sha256;
 pub mod streaming;
 #[path = "../tests/independent/transcript.rs"]
 pub mod transcript;
+pub mod writer;
+
+use std::slice;
 
 use answer::{Answer, OPEN};
 use field::P;
@@ -41,7 +44,7 @@ pub type Coefficients = [u32; 64];
 /// The message must be readable for `len` bytes.
 #[inline(never)]
 pub unsafe extern "C" fn hash(message: *const u8, len: usize, out: &mut Digest) -> Answer {
-    let message = unsafe { std::slice::from_raw_parts(message, len) };
+    let message = unsafe { slice::from_raw_parts(message, len) };
     let (answer, digest) = public_hash(message);
     *out = digest;
     answer
@@ -147,7 +150,7 @@ pub unsafe extern "C" fn verdict(
     len: usize,
     _size: usize,
 ) -> Answer {
-    let proof = unsafe { std::slice::from_raw_parts(proof, len) };
+    let proof = unsafe { slice::from_raw_parts(proof, len) };
     judge::verdict(params, context, proof)
 }
 
@@ -161,7 +164,7 @@ pub unsafe extern "C" fn verdict_in_pieces(
     len: usize,
     size: usize,
 ) -> Answer {
-    let proof = unsafe { std::slice::from_raw_parts(proof, len) };
+    let proof = unsafe { slice::from_raw_parts(proof, len) };
     let (opening, mut reader) = Reader::open(params, context);
     if opening.number != OPEN {
         return opening;
@@ -176,7 +179,7 @@ pub unsafe extern "C" fn verdict_in_pieces(
 /// The bytes must be readable for `len` bytes.
 #[inline(never)]
 unsafe extern "C" fn feed(reader: &mut Reader, bytes: *const u8, len: usize) -> Answer {
-    reader.feed(unsafe { std::slice::from_raw_parts(bytes, len) })
+    reader.feed(unsafe { slice::from_raw_parts(bytes, len) })
 }
 
 /// The same with one such call for each piece, whose answer the caller acts on.
@@ -189,7 +192,7 @@ pub unsafe extern "C" fn verdict_by_calls(
     len: usize,
     size: usize,
 ) -> Answer {
-    let proof = unsafe { std::slice::from_raw_parts(proof, len) };
+    let proof = unsafe { slice::from_raw_parts(proof, len) };
     let (opening, mut reader) = Reader::open(params, context);
     if opening.number != OPEN {
         return opening;
@@ -201,4 +204,50 @@ pub unsafe extern "C" fn verdict_by_calls(
         }
     }
     reader.finish()
+}
+
+/// Horner's rule with one remainder a step: a product and a number fit in 64 bits.
+/// `fold::eval` takes two, of the product and of the sum, and so does the library.
+fn eval_by_one_remainder(coefficients: &[u32], x: u32) -> u32 {
+    let step = |value: u32, &coefficient: &u32| {
+        ((value as u64 * x as u64 + coefficient as u64) % P as u64) as u32
+    };
+    coefficients.iter().rev().fold(0, step)
+}
+
+/// The ordinary writer with a way to evaluate a polynomial at a point.
+macro_rules! writers {
+    ($($name:ident by $eval:path;)*) => {
+        $(
+            /// Each pointer must be good for the length after it.
+            #[inline(never)]
+            pub unsafe extern "C" fn $name(
+                params: Params,
+                context: &Digest,
+                coefficients: *const u32,
+                coefficients_len: usize,
+                numbers: *mut u32,
+                numbers_len: usize,
+                bytes: *mut u8,
+                bytes_len: usize,
+                output: *mut u8,
+                output_len: usize,
+            ) -> Answer {
+                writer::write(
+                    params,
+                    context,
+                    unsafe { slice::from_raw_parts(coefficients, coefficients_len) },
+                    unsafe { slice::from_raw_parts_mut(numbers, numbers_len) },
+                    unsafe { slice::from_raw_parts_mut(bytes, bytes_len) },
+                    unsafe { slice::from_raw_parts_mut(output, output_len) },
+                    $eval,
+                )
+            }
+        )*
+    };
+}
+
+writers! {
+    write by fold::eval;
+    write_by_one_remainder by eval_by_one_remainder;
 }

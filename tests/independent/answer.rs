@@ -28,6 +28,12 @@ pub const CHAIN_MISSES_FINAL: u8 = 25;
 pub const TOO_SHORT: u8 = 26;
 pub const TOO_LONG: u8 = 27;
 
+// The writer's own, of request 2026-02.
+pub const WRITTEN: u8 = 0;
+pub const COEFFICIENT_COUNT_DIFFERS: u8 = 30;
+pub const SCRATCH_TOO_SHORT: u8 = 31;
+pub const OUTPUT_TOO_SHORT: u8 = 32;
+
 impl Answer {
     /// What a successful field call or hash answers beside its value.
     pub const DONE: Answer = Answer {

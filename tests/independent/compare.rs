@@ -4,22 +4,30 @@ use std::fmt::Debug;
 use std::ops::RangeInclusive;
 use std::process::exit;
 
-use crate::answer::{Answer, Counts};
+use crate::answer::{Answer, Counts, ACCEPTED, WRITTEN};
 use crate::domain::point;
 use crate::ffi::{self, Coefficients, Felt, FieldAnswer};
 use crate::field::{self, P};
+use crate::files;
 use crate::fold;
 use crate::hostile;
 use crate::job;
+use crate::judge::verdict;
 use crate::layout::look_up;
 use crate::merkle;
 use crate::params::Params;
 use crate::rng::Rng;
 use crate::sha256::public_hash;
 use crate::transcript::Transcript;
+use crate::writer::{coefficient_count, write};
+use crate::writings::{
+    add_faults, all_n_and_b, any_polynomial, params_with, polynomial_of_length, short_writing,
+    Writing, FAULTS, SETS_OF_FAULTS,
+};
 
 pub const LEAVES_ROUNDS: usize = 1_000_000;
 pub const PARTS_ROUNDS: usize = 20_000;
+pub const WRITER_ROUNDS: usize = 3_000;
 
 const EDGES: [u32; 9] = [0, 1, 2, 5, P - 1, P, P + 1, 1 << 31, u32::MAX];
 
@@ -481,6 +489,175 @@ fn compare_eval(rounds: usize) {
         compare(&elements_64(&mut rng), count, rng.element());
     }
     eval.done();
+}
+
+/// The writer, on inputs that fit and on inputs that do not.
+pub fn writer(rounds: usize) -> Counts {
+    let counts = compare_writer(rounds);
+    println!("0 disagreements");
+    counts
+}
+
+fn compare_writer(rounds: usize) -> Counts {
+    let mut rng = Rng::new(110);
+    let mut writers = Writers::new();
+    writers.polynomials_of_every_length(&mut rng);
+    writers.every_count_of_folds(&mut rng);
+    writers.coefficients_at_the_edge(&mut rng);
+    writers.every_fault(&mut rng);
+    writers.parameters_not_valid(&mut rng);
+    for _ in 0..rounds {
+        let n = rng.between(2, 10);
+        let params = files::valid_params(&mut rng, n, 64);
+        let coefficients = any_polynomial(&mut rng, params);
+        let mut writing = Writing::fitting(&mut rng, params, coefficients);
+        writers.call(writing.clone());
+        // Each test is the first to fail as often as the others.
+        let first = rng.below(FAULTS.len());
+        let set = (rng.below(SETS_OF_FAULTS) >> first | 1) << first;
+        add_faults(&mut rng, &mut writing, set);
+        writers.call(writing);
+    }
+    writers.left.done();
+    writers.judged.done();
+    writers.counts
+}
+
+/// Both writers on equal inputs, the verdicts on what they wrote, and how often
+/// each number was answered. The library's writer evaluates point by point, so
+/// only few polynomials are long.
+struct Writers {
+    left: Comparison,
+    judged: Comparison,
+    counts: Counts,
+}
+
+impl Writers {
+    fn new() -> Writers {
+        Writers {
+            left: Comparison::of("writer"),
+            judged: Comparison::of("verdicts on a written file"),
+            counts: Counts::default(),
+        }
+    }
+
+    /// Compares the answers and all that is left in the buffers; of these, only
+    /// the first differences are shown.
+    fn call(&mut self, writing: Writing) {
+        let (mut ours, mut theirs) = (writing.clone(), writing);
+        let our_answer = ours.write(write);
+        let their_answer = theirs.write(ffi::write);
+        let differences = ours.differences(&theirs);
+        let our_buffers = differences.map(|found| found.map(|(at, ours, _)| (at, ours)));
+        let their_buffers = differences.map(|found| found.map(|(at, _, theirs)| (at, theirs)));
+        self.counts.add(our_answer.number);
+        self.left.case(
+            (our_answer, our_buffers),
+            (their_answer, their_buffers),
+            &ours,
+        );
+        if our_answer.number == WRITTEN {
+            // Either program's verdict; before them, what they must be.
+            let length = ours.params.file_length();
+            let file = &theirs.output.part()[..length];
+            let verdicts = [
+                verdict(ours.params, &ours.context, file),
+                ffi::verdict(ours.params, &ours.context, file),
+            ];
+            let accepted = Answer::new(ACCEPTED, length);
+            self.judged.case([accepted; 2], verdicts, &ours);
+        }
+    }
+
+    /// Every n up to 14 and every b; every length where that takes little time,
+    /// else the shortest, the full one and one between, of n = 14 only some.
+    fn polynomials_of_every_length(&mut self, rng: &mut Rng) {
+        for (n, b) in all_n_and_b(2..=14) {
+            let full = 1 << (n - b);
+            let between = rng.between(2, full.max(3) - 1);
+            let lengths: Vec<usize> = match n {
+                _ if n <= 9 || n - b <= 5 => (0..=full).collect(),
+                14 => vec![rng.pick(&[0, 1, between]), full],
+                _ => vec![0, 1, between, full],
+            };
+            for length in lengths {
+                let params = params_with(rng, n, b);
+                let coefficients = polynomial_of_length(rng, params, length);
+                self.call(Writing::fitting(rng, params, coefficients));
+            }
+        }
+    }
+
+    fn every_count_of_folds(&mut self, rng: &mut Rng) {
+        for (n, b) in all_n_and_b(2..=11) {
+            for k in ALL_K {
+                for q in [1, 64] {
+                    let params = Params::new(n, b, k, q);
+                    if params.valid() {
+                        let coefficients = rng.elements(coefficient_count(params));
+                        self.call(Writing::exact(rng, params, coefficients));
+                    }
+                }
+            }
+        }
+    }
+
+    /// Coefficients next to p on both sides, first, last, anywhere and
+    /// everywhere.
+    fn coefficients_at_the_edge(&mut self, rng: &mut Rng) {
+        for (n, b) in all_n_and_b(2..=9) {
+            let params = params_with(rng, n, b);
+            let count = coefficient_count(params);
+            for edge in [0, 1, P - 1, P, P + 1, u32::MAX] {
+                for place in [0, count - 1, rng.below(count)] {
+                    let mut coefficients = rng.elements(count);
+                    coefficients[place] = edge;
+                    self.call(Writing::exact(rng, params, coefficients));
+                }
+                self.call(Writing::exact(rng, params, vec![edge; count]));
+            }
+        }
+    }
+
+    /// Each fault alone, for n up to 20, and every set of faults.
+    fn every_fault(&mut self, rng: &mut Rng) {
+        for n in (2..=14).chain([15, 17, 20]) {
+            for fault in FAULTS.iter().flat_map(|(_, faults)| *faults) {
+                let params = files::valid_params(rng, n, 64);
+                let coefficients = any_polynomial(rng, params);
+                let mut writing = Writing::exact(rng, params, coefficients);
+                fault(rng, &mut writing);
+                self.call(writing);
+            }
+        }
+        for n in 2..=9 {
+            for set in 0..SETS_OF_FAULTS {
+                let params = files::valid_params(rng, n, 64);
+                let coefficients = any_polynomial(rng, params);
+                let mut writing = Writing::fitting(rng, params, coefficients);
+                add_faults(rng, &mut writing, set);
+                self.call(writing);
+            }
+        }
+    }
+
+    /// Bytes at and around all bounds, and any four bytes. Most of those that
+    /// are valid have other faults.
+    fn parameters_not_valid(&mut self, rng: &mut Rng) {
+        for n in ALL_N.chain([64, 128, 255]) {
+            for b in ALL_B.chain([255]) {
+                for k in ALL_K.chain([255]) {
+                    for q in SOME_Q {
+                        self.call(short_writing(rng, Params::new(n, b, k, q)));
+                    }
+                }
+            }
+        }
+        for _ in 0..10_000 {
+            let params = any_params(rng);
+            self.call(short_writing(rng, params));
+        }
+    }
 }
 
 /// Hostile jobs: the verdict on each, whole and in pieces of any size.

@@ -109,6 +109,19 @@ mod exported {
             len: usize,
             size: usize,
         ) -> Answer;
+
+        pub fn test_write(
+            p: Params,
+            context: *const Digest,
+            coefficients: *const u32,
+            coefficients_len: usize,
+            numbers: *mut u32,
+            numbers_len: usize,
+            bytes: *mut u8,
+            bytes_len: usize,
+            output: *mut u8,
+            output_len: usize,
+        ) -> Answer;
     }
 }
 
@@ -222,4 +235,28 @@ pub fn verdict(params: Params, context: &Digest, proof: &[u8]) -> Answer {
 
 pub fn verdict_in_pieces(params: Params, context: &Digest, proof: &[u8], size: usize) -> Answer {
     unsafe { exported::test_verdict_in_pieces(params, context, proof.as_ptr(), proof.len(), size) }
+}
+
+pub fn write(
+    params: Params,
+    context: &Digest,
+    coefficients: &[u32],
+    numbers: &mut [u32],
+    bytes: &mut [u8],
+    output: &mut [u8],
+) -> Answer {
+    unsafe {
+        exported::test_write(
+            params,
+            context,
+            coefficients.as_ptr(),
+            coefficients.len(),
+            numbers.as_mut_ptr(),
+            numbers.len(),
+            bytes.as_mut_ptr(),
+            bytes.len(),
+            output.as_mut_ptr(),
+            output.len(),
+        )
+    }
 }

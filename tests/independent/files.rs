@@ -64,7 +64,7 @@ pub fn valid_params(rng: &mut Rng, n: usize, most_queries: usize) -> Params {
 }
 
 /// A polynomial of any length, none and the full one more often than others.
-fn polynomial(rng: &mut Rng, params: Params) -> Vec<u32> {
+pub fn polynomial(rng: &mut Rng, params: Params) -> Vec<u32> {
     let full_size = 1 << (params.n - params.b);
     let count = match rng.below(8) {
         0 => 0,

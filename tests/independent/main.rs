@@ -32,6 +32,8 @@ mod rng;
 mod script;
 mod sha256;
 mod transcript;
+mod writer;
+mod writings;
 
 use std::env;
 use std::fs;
@@ -45,6 +47,7 @@ use random_scripts::RandomScripts;
 const USAGE: &str = "usage:
   independent leaves [ROUNDS]
   independent parts [ROUNDS]
+  independent writer [ROUNDS]
   independent build N B K Q SEED > JOB
   independent verdict < JOB
   independent jobs DIR
@@ -70,7 +73,9 @@ fn main() -> ExitCode {
 
 fn run(arguments: &[&str]) -> Result<ExitCode, String> {
     match arguments {
-        ["leaves" | "parts"] | ["leaves" | "parts", _] | ["hostile", _, _] => compare(arguments)?,
+        ["leaves" | "parts" | "writer"]
+        | ["leaves" | "parts" | "writer", _]
+        | ["hostile", _, _] => compare(arguments)?,
         ["build", n, b, k, q, seed] => {
             let params = Params::new(number(n)?, number(b)?, number(k)?, number(q)?);
             if !params.valid() {
@@ -131,6 +136,8 @@ fn compare(arguments: &[&str]) -> Result<(), String> {
         ["leaves", rounds] => compare::leaves(number(rounds)?),
         ["parts"] => compare::parts(compare::PARTS_ROUNDS),
         ["parts", rounds] => compare::parts(number(rounds)?),
+        ["writer"] => println!("{}", compare::writer(compare::WRITER_ROUNDS)),
+        ["writer", rounds] => println!("{}", compare::writer(number(rounds)?)),
         ["hostile", seed, count] => {
             println!("{}", compare::hostile(number(seed)?, number(count)?))
         }

@@ -6,6 +6,7 @@ use std::fmt;
 
 const OPEN: u8 = 0;
 const ACCEPTED: u8 = 1;
+const WRITTEN: u8 = 0;
 
 /// The file is a proof that holds, for the parameters and the context that it was judged for. Only
 /// an end call and a verdict make one.
@@ -155,6 +156,67 @@ impl fmt::Display for Refusal {
 
 impl Error for Refusal {}
 
+/// No proof was written, and no buffer was touched: the table's number as a case. The place is
+/// always 0, since there is no file.
+///
+/// These are all the cases there are, in the order in which they are tested; the first that applies
+/// decides.
+///
+/// ```
+/// use phieulakhon::WriteRefusal;
+///
+/// let refusal = WriteRefusal::OutputTooShort;
+/// assert_eq!(refusal.number(), 32);
+/// assert_eq!(refusal.to_string(), "refused 32 at 0");
+/// ```
+#[derive(Clone, Copy, Debug, PartialEq, Eq, Hash)]
+pub enum WriteRefusal {
+    /// 10: the parameters are not valid. An answer that the writer doesn't have, which no proved
+    /// call gives, would be read as this one.
+    ParametersNotValid,
+    /// 30: there are not exactly 2^(n−b) coefficients.
+    WrongCoefficientCount,
+    /// 22: a coefficient is not below the field's modulus, 3221225473.
+    NotBelowModulus,
+    /// 31: the scratch has fewer than 2·2^n numbers, or fewer than 64·2^n bytes.
+    ScratchTooShort,
+    /// 32: the output is shorter than the file.
+    OutputTooShort,
+}
+
+impl WriteRefusal {
+    #[cold]
+    fn of(answer: Answer) -> WriteRefusal {
+        match answer.number {
+            30 => WriteRefusal::WrongCoefficientCount,
+            22 => WriteRefusal::NotBelowModulus,
+            31 => WriteRefusal::ScratchTooShort,
+            32 => WriteRefusal::OutputTooShort,
+            _ => WriteRefusal::ParametersNotValid,
+        }
+    }
+
+    /// The table's number.
+    #[must_use]
+    pub fn number(self) -> u8 {
+        match self {
+            WriteRefusal::ParametersNotValid => 10,
+            WriteRefusal::WrongCoefficientCount => 30,
+            WriteRefusal::NotBelowModulus => 22,
+            WriteRefusal::ScratchTooShort => 31,
+            WriteRefusal::OutputTooShort => 32,
+        }
+    }
+}
+
+impl fmt::Display for WriteRefusal {
+    fn fmt(&self, f: &mut fmt::Formatter<'_>) -> fmt::Result {
+        write!(f, "refused {} at 0", self.number())
+    }
+}
+
+impl Error for WriteRefusal {}
+
 /// The answer to an opening or a piece: the bytes so far.
 #[inline]
 pub fn so_far(answer: Answer) -> Result<u32, Refusal> {
@@ -173,6 +235,15 @@ pub fn ended(answer: Answer) -> Result<Accepted, Refusal> {
         })
     } else {
         Err(Refusal::of(answer))
+    }
+}
+
+/// The answer to a write: the file's length.
+pub fn written(answer: Answer) -> Result<usize, WriteRefusal> {
+    if answer.number == WRITTEN {
+        Ok(answer.place as usize)
+    } else {
+        Err(WriteRefusal::of(answer))
     }
 }
 
@@ -199,12 +270,29 @@ mod tests {
     }
 
     #[test]
+    fn every_number_is_read_as_the_writers_or_refused() {
+        for number in 0..=u8::MAX {
+            let answer = Answer { number, place: 7 };
+            let of_writer = matches!(number, 10 | 22 | 30 | 31 | 32);
+            assert_eq!(written(answer).ok(), (number == 0).then_some(7));
+            assert_eq!(
+                WriteRefusal::of(answer).number(),
+                if of_writer { number } else { 10 }
+            );
+        }
+    }
+
+    #[test]
     fn lines() {
         assert_eq!(Accepted { length: 260 }.to_string(), "accepted 260");
         assert_eq!(Refusal::ParametersNotValid.to_string(), "refused 10 at 0");
         assert_eq!(
             Refusal::ByteAfterTheEnd { place: 261 }.to_string(),
             "refused 27 at 261"
+        );
+        assert_eq!(
+            WriteRefusal::WrongCoefficientCount.to_string(),
+            "refused 30 at 0"
         );
     }
 }

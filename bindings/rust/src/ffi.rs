@@ -2,7 +2,8 @@
 //! bindings/c/phieulakhon.h, field by field.
 //!
 //! Each call's contract has no `requires`, so every state is an argument that it takes. It reads
-//! the bytes lent to it, writes nothing but the reader's arrays, and keeps nothing.
+//! what is lent to it, writes nothing but the reader's arrays or the writer's buffers, and keeps
+//! nothing.
 #![allow(unsafe_code)]
 
 use crate::Params;
@@ -83,6 +84,18 @@ extern "C" {
         coefficients: *mut [u32; 64],
     ) -> Answer;
     fn phieulakhon_look_up(p: Params, length: usize, query: usize, layer: usize) -> Span;
+    fn phieulakhon_write(
+        p: Params,
+        context: *const [u8; 32],
+        coefficients: *const u32,
+        count: usize,
+        numbers: *mut u32,
+        numbers_length: usize,
+        bytes: *mut u8,
+        bytes_length: usize,
+        output: *mut u8,
+        output_length: usize,
+    ) -> Answer;
 }
 
 pub fn verdict(p: Params, context: &[u8; 32], proof: &[u8]) -> Answer {
@@ -172,9 +185,37 @@ pub fn look_up(p: Params, length: usize, query: usize, layer: usize) -> Span {
     unsafe { phieulakhon_look_up(p, length, query, layer) }
 }
 
+pub fn write(
+    p: Params,
+    context: &[u8; 32],
+    coefficients: &[u32],
+    numbers: &mut [u32],
+    bytes: &mut [u8],
+    output: &mut [u8],
+) -> Answer {
+    // SAFETY: whatever the buffers' lengths and contents, the callee takes them. It reads the 32
+    // bytes and the coefficients, and reads and writes the three buffers, each within the length
+    // beside it; as they are borrowed, they lie apart and nobody else can reach them meanwhile.
+    unsafe {
+        phieulakhon_write(
+            p,
+            context,
+            coefficients.as_ptr(),
+            coefficients.len(),
+            numbers.as_mut_ptr(),
+            numbers.len(),
+            bytes.as_mut_ptr(),
+            bytes.len(),
+            output.as_mut_ptr(),
+            output.len(),
+        )
+    }
+}
+
 #[cfg(test)]
 mod tests {
     use super::*;
+    use std::collections::BTreeSet;
     use std::fmt::Write;
     use std::mem::{offset_of, size_of};
     use std::path::Path;
@@ -264,6 +305,48 @@ mod tests {
             let bytes: Vec<u8> = (0..random(seed) % 64).map(|_| random(seed) as u8).collect();
             assert_ne!(verdict(p, &[0; 32], &bytes).number, 1);
         }
+    }
+
+    /// Parameters, lengths and coefficients on both sides of each of the writer's bounds.
+    #[test]
+    fn a_write_of_any_arguments_returns() {
+        let near = |length: usize, seed: &mut u64| match random(seed) % 12 {
+            0 => length.saturating_sub(1),
+            1 => length + 1,
+            _ => length,
+        };
+        let seed = &mut 3;
+        let mut given = BTreeSet::new();
+        for _ in 0..10_000 {
+            let p = Params {
+                n: (random(seed) % 6) as u8,
+                b: (random(seed) % 4) as u8,
+                k: (random(seed) % 4) as u8,
+                q: (random(seed) % 3) as u8,
+            };
+            let coefficient = 3221225472 + u32::from(random(seed) % 8 == 0);
+            let coefficients = vec![coefficient; near(1 << p.n >> p.b, seed)];
+            let mut numbers = vec![7; near(2 << p.n, seed)];
+            let mut bytes = vec![7; near(64 << p.n, seed)];
+            let mut output = vec![7; near(file_length(p), seed)];
+            let answer = write(
+                p,
+                &[0; 32],
+                &coefficients,
+                &mut numbers,
+                &mut bytes,
+                &mut output,
+            );
+            given.insert(answer.number);
+            if answer.number == 0 {
+                assert_eq!(answer.place as usize, file_length(p));
+            } else {
+                assert_eq!(answer.place, 0);
+                assert!(numbers.iter().all(|&number| number == 7));
+                assert!(bytes.iter().chain(&output).all(|&byte| byte == 7));
+            }
+        }
+        assert_eq!(given, BTreeSet::from([0, 10, 22, 30, 31, 32]));
     }
 
     /// The layout of the C header, as bindings/c/layout.c prints it.

@@ -1,6 +1,6 @@
-//! A reader of FRI proofs whose every answer is proved: the calls of this crate are a thin, safe
-//! layer over a static library that is built only once the checker has proved that it gives the
-//! answer that the specification defines, for all inputs.
+//! A reader and a writer of FRI proofs whose every answer is proved: the calls of this crate are a
+//! thin, safe layer over a static library that is built only once the checker has proved that it
+//! gives the answer that the specification defines, for all inputs.
 //!
 //! A proof is judged for parameters and a context that the caller chooses, whole by [`verdict`],
 //! from any input by [`verify_reader`], or as its bytes arrive by a [`Reader`]. All three give the
@@ -17,6 +17,9 @@
 //! assert_eq!(reader.finish(), Err(Refusal::TooFewBytes { place: 5 }));
 //! # Ok::<(), Refusal>(())
 //! ```
+//!
+//! A proof is written from the coefficients of a polynomial by [`write_proof`], or in the caller's
+//! own buffers by [`write_proof_in`]. Every proof that is written is accepted.
 #![deny(missing_docs)]
 #![deny(unsafe_code)]
 #![forbid(unsafe_op_in_unsafe_fn)]
@@ -31,9 +34,11 @@ compile_error!("the proved library is compiled for x86-64 Linux");
 mod answer;
 mod ffi;
 mod reader;
+mod writer;
 
-pub use answer::{Accepted, Refusal};
+pub use answer::{Accepted, Refusal, WriteRefusal};
 pub use reader::{verify_reader, Reader};
+pub use writer::{write_proof, write_proof_in, Scratch};
 
 /// The parameters of a proof: 2^n points, blowup 2^b, k folds and q queries.
 ///
@@ -53,8 +58,8 @@ pub struct Params {
 }
 
 impl Params {
-    /// The length of every file that can be accepted with these parameters; none where they are not
-    /// valid.
+    /// The length of every file that can be accepted, or is written, with these parameters; none
+    /// where they are not valid.
     ///
     /// ```
     /// use phieulakhon::Params;
@@ -68,6 +73,34 @@ impl Params {
             0 => None,
             length => Some(length),
         }
+    }
+
+    /// The number of coefficients that a proof is written from, 2^(n−b); none where the parameters
+    /// are not valid.
+    ///
+    /// ```
+    /// use phieulakhon::Params;
+    ///
+    /// assert_eq!(Params { n: 4, b: 2, k: 1, q: 2 }.coefficient_count(), Some(4));
+    /// assert_eq!(Params { n: 4, b: 2, k: 1, q: 0 }.coefficient_count(), None);
+    /// ```
+    #[must_use]
+    pub fn coefficient_count(self) -> Option<usize> {
+        self.file_length().map(|_| 1 << (self.n - self.b))
+    }
+
+    /// How many numbers and how many bytes of scratch the writer needs, 2·2^n and 64·2^n; none
+    /// where the parameters are not valid.
+    ///
+    /// ```
+    /// use phieulakhon::Params;
+    ///
+    /// assert_eq!(Params { n: 4, b: 2, k: 1, q: 2 }.scratch_lengths(), Some((32, 1024)));
+    /// assert_eq!(Params { n: 4, b: 2, k: 1, q: 0 }.scratch_lengths(), None);
+    /// ```
+    #[must_use]
+    pub fn scratch_lengths(self) -> Option<(usize, usize)> {
+        self.file_length().map(|_| (2 << self.n, 64 << self.n))
     }
 }
 

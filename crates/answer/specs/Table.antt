@@ -63,9 +63,19 @@ too-few-bytes = 26
 abbrev pub byte-after-the-end : ℕ
 byte-after-the-end = 27
 
+-- the writer only, as are the two below
+abbrev pub wrong-coefficient-count : ℕ
+wrong-coefficient-count = 30
+
+abbrev pub scratch-too-short : ℕ
+scratch-too-short = 31
+
+abbrev pub output-too-short : ℕ
+output-too-short = 32
+
 -- all of them, ascending
 abbrev pub table : List ℕ
 table =
     open-so-far ∷ accepted ∷ parameters-not-valid ∷ closed ∷ job-too-short ∷ message-too-long ∷ inverse-of-zero ∷ no-such-opening
     ∷ count-differs ∷ parameters-differ ∷ not-below-modulus ∷ path-misses-root ∷ not-the-folded-value ∷ misses-final-polynomial
-    ∷ too-few-bytes ∷ byte-after-the-end ∷ []
+    ∷ too-few-bytes ∷ byte-after-the-end ∷ wrong-coefficient-count ∷ scratch-too-short ∷ output-too-short ∷ []

@@ -42,8 +42,14 @@ pub const TOO_FEW_BYTES: u8 = 26;
 
 pub const BYTE_AFTER_THE_END: u8 = 27;
 
+pub const WRONG_COEFFICIENT_COUNT: u8 = 30;
+
+pub const SCRATCH_TOO_SHORT: u8 = 31;
+
+pub const OUTPUT_TOO_SHORT: u8 = 32;
+
 // Every number, ascending.
-pub fn numbers() -> [u8; 16]
+pub fn numbers() -> [u8; 19]
     ensures { λ r. ⌜ r ≡ table ⌝ }
 {
     [
@@ -63,5 +69,8 @@ pub fn numbers() -> [u8; 16]
         MISSES_FINAL_POLYNOMIAL,
         TOO_FEW_BYTES,
         BYTE_AFTER_THE_END,
+        WRONG_COEFFICIENT_COUNT,
+        SCRATCH_TOO_SHORT,
+        OUTPUT_TOO_SHORT,
     ]
 }

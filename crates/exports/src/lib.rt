@@ -6,6 +6,7 @@ ghost use Rattle.params.specs.Parameters as parameters;
 ghost use Rattle.fri.specs.Judge as judge;
 ghost use Rattle.reader_model.specs.Model.{opened, pieced, ended};
 ghost use Rattle.look_up.specs.LookUp.{lookUpSpan};
+ghost use Rattle.writer.specs.Writer as writer;
 ghost use Rattle.lent_reader.specs.Held.{held, readerOf, outcome, outcomeOf};
 use answer::Answer;
 use look_up::Span;
@@ -125,4 +126,23 @@ pub extern "C" fn phieulakhon_look_up(p: Params, length: usize, query: usize, la
     ensures { λ r. ⌜ r ≡ lookUpSpan p length query layer ⌝ }
 {
     look_up::look_up_span(p, length, query, layer)
+}
+
+// Writes the proof of a polynomial to the front of the output, worked out in the lent numbers and bytes.
+#[no_mangle]
+pub extern "C" fn phieulakhon_write(
+    p: Params,
+    context: &[u8; 32],
+    coefficients: &[u32],
+    numbers: &mut [u32],
+    bytes: &mut [u8],
+    output: &mut [u8],
+) -> Answer
+    ensures { λ r. ⌜ r ≡ writer.written sha256 p (now (context .entry)) (now (coefficients .entry)) (now (numbers .entry)) (now (bytes .entry)) (now (output .entry)) .answer ⌝ }
+    ensures { λ _. ⌜ now (output .exit) ≡ writer.written sha256 p (now (context .entry)) (now (coefficients .entry)) (now (numbers .entry)) (now (bytes .entry)) (now (output .entry)) .output ⌝ }
+    ensures { λ _. ⌜ now (numbers .exit) ≡ writer.written sha256 p (now (context .entry)) (now (coefficients .entry)) (now (numbers .entry)) (now (bytes .entry)) (now (output .entry)) .numbers ⌝ }
+    ensures { λ _. ⌜ now (bytes .exit) ≡ writer.written sha256 p (now (context .entry)) (now (coefficients .entry)) (now (numbers .entry)) (now (bytes .entry)) (now (output .entry)) .bytes ⌝ }
+{
+    let c = *context;
+    writer::write(p, c, coefficients, numbers, bytes, output)
 }

@@ -10,7 +10,7 @@ use lib.Seq.{drop-append-add}
 use Rattle.answer.specs.Table.{answered, open-so-far, accepted}
 use Rattle.message.specs.Bytes.{le, part, joined, words}
 use Rattle.message.specs.Message.{Digest}
-use Rattle.message.proofs.Bytes.{Bytes, Sized, le-length, part-at, part-part, joined-at, joined-length}
+use Rattle.message.proofs.Bytes.{Bytes, Sized, sized, le-length, part-at, part-part, joined-at, joined-length}
 use Rattle.params.specs.declared.Params.{Params}
 use Rattle.params.specs.Parameters.{Valid, header, finalCount, openingLength, queryLength, queriesOffset, openingOffset, fileLength}
 use Rattle.params.proofs.ParameterLaws.{valid-test}
@@ -20,11 +20,6 @@ use Rattle.fri.specs.Accepted.{Accepted}
 use Rattle.fri.proofs.Exactly.{verdict-accepted}
 use Rattle.look_up.specs.LookUp.{lookUpNumber, lookUpAnswer, lookUpPart}
 use Rattle.look_up.proofs.LookUpLaws.{present-test, layer-within}
-
--- Blocks of one size, by their elements.
-sized : (s : ℕ) (bs : List (List ℕ)) → ((i : ℕ) → i < length bs → length (getD bs i []) ≡ s) → Sized s bs
-sized s [] each = Sized.none
-sized s (b ∷ bs) each = Sized.more (each 0 (omega arith)) (sized s bs (λ i h. each (suc i) (omega arith)))
 
 words-sized : (vs : List ℕ) → Sized 4 (map (le 4) vs)
 words-sized [] = Sized.none

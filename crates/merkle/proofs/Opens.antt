@@ -8,8 +8,14 @@ use lib.ListN.{length, getD}
 use Rattle.message.specs.Message.{Digest}
 use Rattle.merkle.specs.Merkle.{sibling, node, join, above, rootOf, path, climb}
 
+-- A node's sibling stands in the same row.
+pub sibling-below : (m k b : ℕ) → m % 2 ≡ b → m < 2 * k → sibling b m < 2 * k
+unfolding sibling
+sibling-below m k zero e h = omega arith
+sibling-below m k (suc b) e h = omega arith
+
 module _ (hash : List ℕ → Digest) where
-  above-length : (row : List Digest) (k : ℕ) → length row ≡ 2 * k → length (above hash row) ≡ k
+  pub above-length : (row : List Digest) (k : ℕ) → length row ≡ 2 * k → length (above hash row) ≡ k
   unfolding above
   above-length [] k e = omega arith
   above-length (l ∷ []) k e = omega arith
@@ -48,11 +54,6 @@ module _ (hash : List ℕ → Digest) where
       ap (λ c. climb hash c (m / 2) (path hash d (above hash row) (m / 2))) (join-at row m (omega (arith, pow-suc 2 d)))
       ∙ opens d (above hash row) (m / 2) (above-length row (2 ^ d) (omega (arith, pow-suc 2 d))) (omega (arith, pow-suc 2 d))
 
-  sibling-below : (m k b : ℕ) → m % 2 ≡ b → m < 2 * k → sibling b m < 2 * k
-  unfolding sibling
-  sibling-below m k zero e h = omega arith
-  sibling-below m k (suc b) e h = omega arith
-
   pub path-length : (d : ℕ) (row : List Digest) (m : ℕ) → length (path hash d row m) ≡ d
   unfolding path
   path-length zero row m = refl
@@ -60,7 +61,7 @@ module _ (hash : List ℕ → Digest) where
 
   -- What holds of every hash and of the leaves holds of the root and of each sibling.
   module _ (P : Digest → Type 0) (every : (xs : List ℕ) → P (hash xs)) where
-    above-all : (row : List Digest) (i : ℕ) → i < length (above hash row) → P (getD (above hash row) i [])
+    pub above-all : (row : List Digest) (i : ℕ) → i < length (above hash row) → P (getD (above hash row) i [])
     unfolding above node
     above-all [] i h = absurd (omega arith)
     above-all (l ∷ []) i h = absurd (omega arith)

@@ -1,6 +1,6 @@
 -- Numbers as bytes, low byte first, and reading parts of joined bytes back. Assumes nothing.
 use Prim.Native.Nat.{ℕ, zero, suc, _+_, _*_, _^_, _%_, _-_, _<_, _≤_, _/_}
-use mathlib.Core.List.{List, [], _∷_, _++_, append-assoc}
+use mathlib.Core.List.{List, [], _∷_, _++_, append-assoc, append-nil}
 use mathlib.Core.Path.{_≡_, refl, ap, sym, _∙_, ap₂}
 use native.Mathlib.Nat.{zero-add, add-comm, mul-zero, pow-suc, pow-zero, mod-eq-of-lt, mul-suc, mod-one, suc-add, zero-lt-suc, one-le-pow}
 use native.Mathlib.Omega.{arith}
@@ -76,6 +76,11 @@ pub data Sized (s : ℕ) : List (List ℕ) → Type 0 where
   none : Sized s []
   more : {b : List ℕ} {bs : List (List ℕ)} → length b ≡ s → Sized s bs → Sized s (b ∷ bs)
 
+-- Blocks of one size, by their elements.
+pub sized : (s : ℕ) (bs : List (List ℕ)) → ((i : ℕ) → i < length bs → length (getD bs i []) ≡ s) → Sized s bs
+sized s [] each = none
+sized s (b ∷ bs) each = more (each 0 (omega arith)) (sized s bs (λ i h. each (suc i) (omega arith)))
+
 -- Block i of blocks of one size.
 pub joined-at : {s : ℕ} {bs : List (List ℕ)} → Sized s bs → (zs : List ℕ) (i : ℕ) → i < length bs → part (s * i) s (joined bs ++ zs) ≡ getD bs i []
 unfolding joined part
@@ -92,6 +97,12 @@ pub joined-length : {s : ℕ} {bs : List (List ℕ)} → Sized s bs → length (
 unfolding joined
 joined-length {s} none = sym (mul-zero s)
 joined-length {s} (more {b} {bs} e r) = length-append b (joined bs) ∙ ap₂ (λ u v. u + v) e (joined-length r) ∙ add-comm s (s * length bs) ∙ sym (mul-suc s (length bs))
+
+-- One block more.
+pub joined-snoc : (bs : List (List ℕ)) (b : List ℕ) → joined (bs ++ (b ∷ [])) ≡ joined bs ++ b
+unfolding joined
+joined-snoc [] b = append-nil b
+joined-snoc (x ∷ bs) b = ap (λ u. x ++ u) (joined-snoc bs b) ∙ sym (append-assoc x (joined bs) b)
 
 -- The number in n + 1 bytes from byte i on, by its first byte.
 pub num-front : (d : List ℕ) (i n : ℕ) → i < length d → num (take (suc n) (drop i d)) ≡ getD d i 0 + 256 * num (take n (drop (suc i) d))

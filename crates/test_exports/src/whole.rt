@@ -1,7 +1,8 @@
-// The verdict on a whole proof.
+// The verdict on a whole proof, and the writer of one.
 ghost use mathlib.Core.Path.{_≡_};
 ghost use Rattle.sha256.specs.Sha256.{sha256};
 ghost use Rattle.fri.specs.Judge as judge;
+ghost use Rattle.writer.specs.Writer as writer;
 use answer::Answer;
 use params::Params;
 
@@ -24,4 +25,22 @@ pub extern "C" fn test_verdict_in_pieces(
 {
     let c = *context;
     verdict::in_pieces(p, c, proof, size)
+}
+
+#[no_mangle]
+pub extern "C" fn test_write(
+    p: Params,
+    context: &[u8; 32],
+    coefficients: &[u32],
+    numbers: &mut [u32],
+    bytes: &mut [u8],
+    output: &mut [u8],
+) -> Answer
+    ensures { λ r. ⌜ r ≡ writer.written sha256 p (now (context .entry)) (now (coefficients .entry)) (now (numbers .entry)) (now (bytes .entry)) (now (output .entry)) .answer ⌝ }
+    ensures { λ _. ⌜ now (output .exit) ≡ writer.written sha256 p (now (context .entry)) (now (coefficients .entry)) (now (numbers .entry)) (now (bytes .entry)) (now (output .entry)) .output ⌝ }
+    ensures { λ _. ⌜ now (numbers .exit) ≡ writer.written sha256 p (now (context .entry)) (now (coefficients .entry)) (now (numbers .entry)) (now (bytes .entry)) (now (output .entry)) .numbers ⌝ }
+    ensures { λ _. ⌜ now (bytes .exit) ≡ writer.written sha256 p (now (context .entry)) (now (coefficients .entry)) (now (numbers .entry)) (now (bytes .entry)) (now (output .entry)) .bytes ⌝ }
+{
+    let c = *context;
+    writer::write(p, c, coefficients, numbers, bytes, output)
 }

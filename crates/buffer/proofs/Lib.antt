@@ -1,0 +1,3 @@
+-- What lent buffers hold: turn by turn, and part by part.
+pub mod BufferLaws
+pub mod Placed

@@ -1,0 +1,2 @@
+-- What is put into a lent buffer.
+pub mod Buffer

@@ -1,0 +1,2 @@
+-- Laws of values in a layer and of the fold in place.
+pub mod PolynomialLaws

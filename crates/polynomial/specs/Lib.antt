@@ -1,0 +1,2 @@
+-- A polynomial in lent numbers.
+pub mod Polynomial

@@ -1,0 +1,77 @@
+// A polynomial in lent numbers: its values in a layer, and its fold in place.
+ghost use mathlib.Core.Path.{_≡_};
+ghost use Prim.Native.Nat.{_+_, _*_, _≤_};
+ghost use lib.ListN.{length, take};
+ghost use Rattle.fold.specs.Poly.{eval};
+ghost use Rattle.polynomial.specs.Polynomial as spec;
+
+// The number of points of a layer, where n is at most 30 and the layer at most n.
+fn layer_size(n: u8, layer: u8) -> usize
+    requires { ⌜ (layer ≤ n) × (n ≤ 30) ⌝ }
+    ensures { λ r. ⌜ r ≡ spec.layerSize n layer ⌝ }
+{
+    let bits = n - layer;
+    1usize << bits
+}
+
+// The value at x of the polynomial with the first count numbers as coefficients, by Horner's rule.
+fn horner(numbers: &[u32], count: usize, x: u32) -> u32
+    requires { ⌜ count ≤ length (now numbers) ⌝ }
+    ensures { λ r. ⌜ r ≡ eval (take count (now (numbers .entry))) x ⌝ }
+{
+    let mut i = count;
+    let mut value = 0;
+    while 0 < i {
+        i -= 1;
+        value = field::add(numbers[i], field::mul(x, value));
+    }
+    value
+}
+
+// Point by point, each point the one before times the root.
+fn evaluate(room: &mut [u32], count: usize, size: usize, n: u8, layer: u8)
+    requires { ⌜ ((layer ≤ n) × (n ≤ 30)) × ((count ≤ size) × ((size ≡ spec.layerSize n layer) × (length (now room) ≡ 2 * size))) ⌝ }
+    ensures { λ _. ⌜ now (room .exit) ≡ spec.evaluated n layer count (now (room .entry)) ⌝ }
+{
+    let root = field::subgroup_generator((n - layer) as usize);
+    let mut x = domain::point(n, layer, 0);
+    let mut i = 0;
+    while i < size {
+        let value = horner(&room[..], count, x);
+        room[size + i] = value;
+        x = field::mul(x, root);
+        i += 1;
+    }
+}
+
+// The engine: the values of the first count numbers of a layer's room, into its second half.
+pub fn values(room: &mut [u32], count: usize, n: u8, layer: u8)
+    ensures { λ _. ⌜ now (room .exit) ≡ spec.evaluated n layer count (now (room .entry)) ⌝ }
+{
+    if layer <= n {
+        if n <= 30 {
+            let size = layer_size(n, layer);
+            if count <= size {
+                if room.len() == 2 * size {
+                    evaluate(room, count, size, n, layer);
+                }
+            }
+        }
+    }
+}
+
+// The fold of an even number of coefficients, written over their first half.
+pub fn fold(poly: &mut [u32], beta: u32)
+    ensures { λ _. ⌜ now (poly .exit) ≡ spec.foldedInPlace beta (now (poly .entry)) ⌝ }
+{
+    if poly.len() % 2 == 0 {
+        let half = poly.len() / 2;
+        let mut i = 0;
+        while i < half {
+            let even = poly[2 * i];
+            let odd = poly[2 * i + 1];
+            poly[i] = field::add(even, field::mul(beta, odd));
+            i += 1;
+        }
+    }
+}

@@ -1,0 +1,2 @@
+-- The round trip.
+pub mod RoundTrip

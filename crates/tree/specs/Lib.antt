@@ -1,0 +1,2 @@
+-- A Merkle tree in lent bytes.
+pub mod Tree

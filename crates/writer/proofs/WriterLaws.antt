@@ -1,0 +1,103 @@
+-- The writer's tests, and the turns of its small loops. Assumes nothing.
+use Prim.Native.Nat.{ℕ, suc, _+_, _*_, _^_, _-_, _≤_, _<_}
+use mathlib.Core.Bool.{Bool, true, false, _&&_, not, cond, false≢true}
+use mathlib.Core.List.{List, [], _∷_, _++_}
+use mathlib.Core.Path.{_≡_, refl, sym, ap, _∙_}
+use native.Mathlib.Numerals.{add-one}
+use native.Mathlib.Omega.{arith}
+use borrow.Author.Tests.{lt-ltb, le-ltb, lt-leb, le-leb, ne-eqb, eq-eqb}
+use lib.Dec.{eqb, leb}
+use lib.ListN.{length, take, drop, getD, set, drop-of-length-le}
+use lib.Seq.{sets, drop-cons, take-suc, take-suc-set}
+use Rattle.params.specs.declared.Params.{Params}
+use Rattle.params.specs.Parameters.{valid, fileLength}
+use Rattle.message.specs.Bytes.{le, words}
+use Rattle.message.proofs.Bytes.{le-length}
+use Rattle.message.proofs.MessageLaws.{words-more}
+use Rattle.buffer.specs.Buffer.{put}
+use Rattle.buffer.proofs.BufferLaws.{put-fits}
+use Rattle.field.specs.Modular.{p as modulus}
+use Rattle.writer.specs.Writer.{allBelow, tested}
+
+-- A loop that looks for a coefficient that is not below the modulus: a turn, one found, and none found.
+pub below-turn : (l : List ℕ) (i : ℕ) → i < length l → getD l i 0 < modulus → allBelow l ≡ allBelow (drop i l) → allBelow l ≡ allBelow (drop (i + 1) l)
+unfolding allBelow
+below-turn l i h b e = e ∙ ap allBelow (drop-cons l i 0 h) ∙ ap (λ (t : Bool). t && allBelow (drop (suc i) l)) (lt-ltb _ _ b) ∙ ap (λ (k : ℕ). allBelow (drop k l)) (sym (add-one i))
+
+pub below-fails : (l : List ℕ) (i : ℕ) → i < length l → modulus ≤ getD l i 0 → allBelow l ≡ allBelow (drop i l) → false ≡ allBelow l
+unfolding allBelow
+below-fails l i h b e = sym (e ∙ ap allBelow (drop-cons l i 0 h) ∙ ap (λ (t : Bool). t && allBelow (drop (suc i) l)) (le-ltb _ _ b))
+
+pub below-end : (l : List ℕ) (i : ℕ) → length l ≤ i → allBelow l ≡ allBelow (drop i l) → true ≡ allBelow l
+unfolding allBelow
+below-end l i h e = sym (e ∙ ap allBelow (drop-of-length-le l {i = i} h))
+
+-- A loop that copies the first numbers into an array.
+pub array-more : (d s : List ℕ) (i : ℕ) → i < length d → i < length s → take i d ≡ take i s → take (i + 1) (set d i (getD s i 0)) ≡ take (i + 1) s
+array-more d s i h k e =
+    ap (λ (n : ℕ). take n (set d i (getD s i 0))) (add-one i)
+    ∙ take-suc-set d i (getD s i 0) h
+    ∙ ap (λ (x : List ℕ). x ++ (getD s i 0 ∷ [])) e
+    ∙ sym (take-suc s i 0 k)
+    ∙ ap (λ (n : ℕ). take n s) (sym (add-one i))
+
+-- A loop that puts the first numbers into a file, each in 4 bytes.
+pub final-more : {d e : List ℕ} (l s : List ℕ) (at i : ℕ) → d ≡ sets l at (words (take i s)) → e ≡ put d (at + 4 * i) (le 4 (getD s i 0)) → i < length s
+    → at + 4 * i + 4 ≤ length d → e ≡ sets l at (words (take (i + 1) s))
+final-more {d} {e} l s at i q r h k =
+    r ∙ put-fits d (at + 4 * i) (le 4 (getD s i 0)) (omega (arith, le-length 4 (getD s i 0))) ∙ words-more l s at i q h refl
+
+-- What a test by `!` says of the call that it turns round.
+pub refuted : {b : Bool} (r : Bool) → r ≡ b → not r ≡ true → b ≡ false
+refuted true e h = absurd (false≢true h)
+refuted false e h = sym e
+
+pub upheld : {b : Bool} (r : Bool) → r ≡ b → not r ≡ false → b ≡ true
+upheld true e h = sym e
+upheld false e h = absurd (false≢true (sym h))
+
+-- The tests in their order, as one function of what they find.
+unfoldable pub tests : Bool → Bool → Bool → Bool → Bool → Bool → ℕ
+tests valid counted below numbers bytes output = cond valid (cond counted (cond below (cond (numbers && bytes) (cond output 0 32) 31) 22) 30) 10
+
+module _ (p : Params) (f : List ℕ) (numbers bytes output : ℕ) where
+  abbrev number : ℕ
+  number = tested p f numbers bytes output
+
+  pub in-order : number
+      ≡ tests (valid p) (eqb (length f) (2 ^ (p .n - p .b))) (allBelow f) (leb (2 * 2 ^ p .n) numbers) (leb (64 * 2 ^ p .n) bytes) (leb (fileLength p) output)
+  unfolding tested tests
+  in-order = refl
+
+  pub not-valid : valid p ≡ false → 10 ≡ number
+  unfolding tests
+  not-valid e = rw (in-order, e)
+
+  module _ (v : valid p ≡ true) where
+    pub wrong-count : (length f ≡ 2 ^ (p .n - p .b) → ⊥) → 30 ≡ number
+    unfolding tests
+    wrong-count h = rw (in-order, v, ne-eqb _ _ h)
+
+    module _ (count : length f ≡ 2 ^ (p .n - p .b)) where
+      pub not-below : allBelow f ≡ false → 22 ≡ number
+      unfolding tests
+      not-below e = rw (in-order, v, eq-eqb _ _ count, e)
+
+      module _ (below : allBelow f ≡ true) where
+        pub few-numbers : numbers < 2 * 2 ^ p .n → 31 ≡ number
+        unfolding tests
+        few-numbers h = rw (in-order, v, eq-eqb _ _ count, below, lt-leb _ _ h)
+
+        module _ (enough : 2 * 2 ^ p .n ≤ numbers) where
+          pub few-bytes : bytes < 64 * 2 ^ p .n → 31 ≡ number
+          unfolding tests
+          few-bytes h = rw (in-order, v, eq-eqb _ _ count, below, le-leb _ _ enough, lt-leb _ _ h)
+
+          module _ (room : 64 * 2 ^ p .n ≤ bytes) where
+            pub short-output : output < fileLength p → 32 ≡ number
+            unfolding tests
+            short-output h = rw (in-order, v, eq-eqb _ _ count, below, le-leb _ _ enough, le-leb _ _ room, lt-leb _ _ h)
+
+            pub none-fails : fileLength p ≤ output → 0 ≡ number
+            unfolding tests
+            none-fails h = rw (in-order, v, eq-eqb _ _ count, below, le-leb _ _ enough, le-leb _ _ room, le-leb _ _ h)

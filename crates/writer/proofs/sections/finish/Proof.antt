@@ -1,0 +1,68 @@
+-- `writer::sections::finish` meets its contract: the count and the coefficients are put, and absorbed.
+-- Assumes nothing.
+use denote.Ref.{now}
+use native.Mathlib.Omega.{arith}
+use borrow.Author.Needs.{needs}
+use Rattle.params.specs.Parameters.{finalCount, queriesOffset}
+use Rattle.params.proofs.ParameterLaws.{final-small, from-valid}
+use Rattle.writer.proofs.SectionLaws.{finish-left}
+use Rattle.writer.proofs.sections.finish.Statement.{statement}
+use Rattle.writer.proofs.sections.finish.Tie as tie
+
+final-count-requires : tie.Need-final-count-requires
+final-count-requires c κs = search needs
+
+cast-at : tie.Need-cast-at
+cast-at c = search needs
+
+mul-at : tie.Need-mul-at
+mul-at c = search needs
+
+add-at : tie.Need-add-at
+add-at c = search needs
+
+put-count-requires : tie.Need-put-count-requires
+put-count-requires c κs = search needs
+
+add-put-final : tie.Need-add-put-final
+add-put-final c = search needs
+
+put-final-requires : tie.Need-put-final-requires
+unfolding queriesOffset
+put-final-requires c κs =
+    let a = c .before .before .before .before .before .before .before .before .before .args in
+    let full = from-valid (a .p) (finalCount (a .p)) (search needs) (c .before .before .before .before .before .before .final-count .ensures) in
+    (omega (arith, full), omega (arith, full))
+
+final-of-requires : tie.Need-final-of-requires
+final-of-requires c κs =
+    let a = c .before .before .before .before .before .before .before .before .before .before .before .before .args in
+    let full = from-valid (a .p) (finalCount (a .p)) (search needs) (c .before .before .before .before .before .before .before .before .before .final-count .ensures) in
+    (omega (arith, full, final-small (a .p) (search needs)), omega (arith, full))
+
+absorb-final-requires : tie.Need-absorb-final-requires
+absorb-final-requires c κs = search needs
+
+same-length : tie.Need-same-length
+same-length c = search needs
+
+returns : tie.Need-returns
+returns c =
+    let a = c .before .before .before .before .before .before .before .before .before .before .before .before .before .before .args in
+    finish-left (a .p) (a .s .state) (now (a .numbers)) (now (a .file)) _ (search needs) (search needs) (c .before .before .before .before .before .before .before .before .before .before .before .final-count .ensures) (c .before .before .before .before .before .before .before .before .put-count .ensures) (c .before .before .before .before .put-final .ensures) (c .before .final-of .ensures) (c .absorb-final .ensures)
+
+pub finish-spec : {M : Type 1} → statement M
+finish-spec =
+    tie.close
+    (tie.spec
+    final-count-requires
+    cast-at
+    mul-at
+    add-at
+    put-count-requires
+    add-put-final
+    put-final-requires
+    final-of-requires
+    absorb-final-requires
+    same-length
+    returns)

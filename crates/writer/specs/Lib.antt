@@ -1,0 +1,2 @@
+-- The writer of proofs.
+pub mod Writer

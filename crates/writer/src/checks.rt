@@ -1,0 +1,46 @@
+// The writer's tests, in their order.
+ghost use mathlib.Core.Path.{_≡_};
+ghost use Rattle.writer.specs.Writer as spec;
+use params::Params;
+
+// Whether every coefficient is below the modulus.
+fn all_below(coefficients: &[u32]) -> bool
+    ensures { λ r. ⌜ r ≡ spec.allBelow (now (coefficients .entry)) ⌝ }
+{
+    let mut i = 0;
+    while i < coefficients.len() {
+        if 3221225473 <= coefficients[i] {
+            return false;
+        }
+        i += 1;
+    }
+    true
+}
+
+pub fn tested(p: Params, coefficients: &[u32], numbers: usize, bytes: usize, output: usize) -> u8
+    ensures { λ r. ⌜ r ≡ spec.tested p (now (coefficients .entry)) numbers bytes output ⌝ }
+{
+    if !params::is_valid(p) {
+        return answer::PARAMETERS_NOT_VALID;
+    }
+    if coefficients.len() != crate::sizes::power(p.n - p.b) {
+        return answer::WRONG_COEFFICIENT_COUNT;
+    }
+    if !all_below(coefficients) {
+        return answer::NOT_BELOW_MODULUS;
+    }
+    let size = crate::sizes::power(p.n);
+    let length = params::file_length(p);
+    let numbers_needed = 2 * size;
+    let bytes_needed = 64 * size;
+    if numbers < numbers_needed {
+        return answer::SCRATCH_TOO_SHORT;
+    }
+    if bytes < bytes_needed {
+        return answer::SCRATCH_TOO_SHORT;
+    }
+    if output < length {
+        return answer::OUTPUT_TOO_SHORT;
+    }
+    answer::OPEN
+}

@@ -1,0 +1,96 @@
+// The layers: each is evaluated, committed and folded.
+ghost use mathlib.Core.Path.{_≡_};
+ghost use Prim.Native.Nat.{_+_, _*_, _^_, _-_, _≤_, _<_};
+ghost use lib.ListN.{length};
+ghost use lib.Seq.{sets};
+ghost use Rattle.sha256.specs.Sha256.{sha256};
+ghost use Rattle.params.specs.Parameters.{Valid};
+ghost use Rattle.transcript.specs.Transcript as transcript;
+ghost use Rattle.writer_model.specs.Work as spec;
+use params::Params;
+use transcript::Transcript;
+
+// A layer's values, from its polynomial.
+fn evaluate(p: Params, layer: u8, numbers: &mut [u32])
+    requires { ⌜ Valid p × ((layer < p .k) × (2 * 2 ^ p .n ≤ length (now numbers))) ⌝ }
+    ensures { λ _. ⌜ now (numbers .exit) ≡ spec.withValues p layer (now (numbers .entry)) ⌝ }
+{
+    let room = 2 * crate::sizes::size_of(p, layer);
+    polynomial::values(
+        &mut numbers[..room],
+        crate::sizes::count_of(p, layer),
+        p.n,
+        layer,
+    );
+}
+
+// A layer's tree, from its values. Answers the root.
+fn commit(p: Params, layer: u8, numbers: &[u32], bytes: &mut [u8]) -> [u8; 32]
+    requires { ⌜ Valid p × ((layer < p .k) × ((2 * 2 ^ p .n ≤ length (now numbers)) × (64 * 2 ^ p .n ≤ length (now bytes)))) ⌝ }
+    ensures { λ r. ⌜ r ≡ spec.rootIn p sha256 layer (now (numbers .entry)) ⌝ }
+    ensures { λ _. ⌜ now (bytes .exit) ≡ sets (now (bytes .entry)) (spec.treeStart p layer) (spec.treeIn p sha256 layer (now (numbers .entry))) ⌝ }
+{
+    let size = crate::sizes::size_of(p, layer);
+    let end = 2 * size;
+    let from = 32 * size;
+    let to = 64 * size - 32;
+    let height = p.n - layer - 1;
+    tree::grow(&numbers[size..end], height, &mut bytes[from..to])
+}
+
+// The fold of a layer's polynomial.
+fn fold(p: Params, layer: u8, beta: u32, numbers: &mut [u32])
+    requires { ⌜ Valid p × ((layer < p .k) × (2 * 2 ^ p .n ≤ length (now numbers))) ⌝ }
+    ensures { λ _. ⌜ now (numbers .exit) ≡ spec.withFold p layer beta (now (numbers .entry)) ⌝ }
+{
+    let count = crate::sizes::count_of(p, layer);
+    polynomial::fold(&mut numbers[..count], beta);
+}
+
+// One layer.
+fn layer(
+    p: Params,
+    layer: u8,
+    s: Transcript,
+    numbers: &mut [u32],
+    bytes: &mut [u8],
+    file: &mut [u8],
+) -> Transcript
+    requires { ⌜ Valid p × ((layer < p .k) × ((2 * 2 ^ p .n ≤ length (now numbers)) × ((64 * 2 ^ p .n ≤ length (now bytes)) × (8 + 32 * p .k ≤ length (now file))))) ⌝ }
+    ensures { λ r. ⌜ r .state ≡ spec.layered p sha256 layer (spec.work (now (numbers .entry)) (now (bytes .entry)) (now (file .entry)) (s .state)) .state ⌝ }
+    ensures { λ _. ⌜ now (numbers .exit) ≡ spec.layered p sha256 layer (spec.work (now (numbers .entry)) (now (bytes .entry)) (now (file .entry)) (s .state)) .numbers ⌝ }
+    ensures { λ _. ⌜ now (bytes .exit) ≡ spec.layered p sha256 layer (spec.work (now (numbers .entry)) (now (bytes .entry)) (now (file .entry)) (s .state)) .bytes ⌝ }
+    ensures { λ _. ⌜ now (file .exit) ≡ spec.layered p sha256 layer (spec.work (now (numbers .entry)) (now (bytes .entry)) (now (file .entry)) (s .state)) .file ⌝ }
+{
+    evaluate(p, layer, numbers);
+    let root = commit(p, layer, &numbers[..], bytes);
+    buffer::put(file, 8 + 32 * layer as usize, &root);
+    let next = s.absorb_root(root);
+    let beta = next.challenge();
+    fold(p, layer, beta, numbers);
+    next
+}
+
+// All layers.
+pub fn layers(
+    p: Params,
+    s: Transcript,
+    numbers: &mut [u32],
+    bytes: &mut [u8],
+    file: &mut [u8],
+) -> Transcript
+    requires { ⌜ Valid p × ((2 * 2 ^ p .n ≤ length (now numbers)) × ((64 * 2 ^ p .n ≤ length (now bytes)) × (8 + 32 * p .k ≤ length (now file)))) ⌝ }
+    ensures { λ r. ⌜ r .state ≡ spec.allLayered p sha256 (p .k) (spec.work (now (numbers .entry)) (now (bytes .entry)) (now (file .entry)) (s .state)) .state ⌝ }
+    ensures { λ _. ⌜ now (numbers .exit) ≡ spec.allLayered p sha256 (p .k) (spec.work (now (numbers .entry)) (now (bytes .entry)) (now (file .entry)) (s .state)) .numbers ⌝ }
+    ensures { λ _. ⌜ now (bytes .exit) ≡ spec.allLayered p sha256 (p .k) (spec.work (now (numbers .entry)) (now (bytes .entry)) (now (file .entry)) (s .state)) .bytes ⌝ }
+    ensures { λ _. ⌜ now (file .exit) ≡ spec.allLayered p sha256 (p .k) (spec.work (now (numbers .entry)) (now (bytes .entry)) (now (file .entry)) (s .state)) .file ⌝ }
+{
+    let mut t = s;
+    let mut j = 0;
+    while j < p.k {
+        let next = layer(p, j, t, numbers, bytes, file);
+        t = next;
+        j += 1;
+    }
+    t
+}

@@ -1,0 +1,92 @@
+// The file: its four sections, one after the other.
+ghost use mathlib.Core.Path.{_≡_};
+ghost use Prim.Native.Nat.{_+_, _*_, _^_, _-_, _≤_, _<_};
+ghost use lib.ListN.{length, take};
+ghost use lib.Seq.{sets};
+ghost use Rattle.sha256.specs.Sha256.{sha256};
+ghost use Rattle.message.specs.Bytes.{le, words};
+ghost use Rattle.params.specs.Parameters.{Valid, header, finalCount, queriesOffset, fileLength};
+ghost use Rattle.transcript.specs.Transcript as transcript;
+ghost use Rattle.built.specs.Built.{builtFile};
+ghost use Rattle.writer_model.specs.Work as spec;
+use params::Params;
+use transcript::Transcript;
+
+// The first count numbers, at most 64 of them, as an array.
+fn final_of(numbers: &[u32], count: usize) -> [u32; 64]
+    requires { ⌜ (count ≤ 64) × (count ≤ length (now numbers)) ⌝ }
+    ensures { λ r. ⌜ take count r ≡ take count (now (numbers .entry)) ⌝ }
+{
+    let mut r = [0u32; 64];
+    let mut i = 0;
+    while i < count {
+        r[i] = numbers[i];
+        i += 1;
+    }
+    r
+}
+
+// The first count numbers, each in 4 bytes.
+fn put_final(file: &mut [u8], at: usize, numbers: &[u32], count: usize)
+    requires { ⌜ (count ≤ length (now numbers)) × (at + 4 * count ≤ length (now file)) ⌝ }
+    ensures { λ _. ⌜ now (file .exit) ≡ sets (now (file .entry)) at (words (take count (now (numbers .entry)))) ⌝ }
+{
+    let mut i = 0;
+    while i < count {
+        buffer::put_number(file, at + 4 * i, numbers[i]);
+        i += 1;
+    }
+}
+
+// Section 1, and section 2's count.
+fn head(p: Params, file: &mut [u8])
+    requires { ⌜ 8 ≤ length (now file) ⌝ }
+    ensures { λ _. ⌜ now (file .exit) ≡ sets (sets (sets (now (file .entry)) 0 (le 2 4)) 2 (header p)) 6 (le 2 (p .k)) ⌝ }
+{
+    let bytes = params::header(p);
+    buffer::put_count(file, 0, 4);
+    buffer::put(file, 2, &bytes);
+    buffer::put_count(file, 6, p.k as usize);
+}
+
+// Section 3: the final coefficients, and the transcript that has absorbed them.
+fn finish(p: Params, s: Transcript, numbers: &[u32], file: &mut [u8]) -> Transcript
+    requires { ⌜ Valid p × ((finalCount p ≤ length (now numbers)) × (queriesOffset p ≤ length (now file))) ⌝ }
+    ensures { λ r. ⌜ r .state ≡ transcript.finish sha256 (s .state) (take (finalCount p) (now (numbers .entry))) ⌝ }
+    ensures { λ _. ⌜ now (file .exit) ≡ sets (sets (now (file .entry)) (8 + 32 * p .k) (le 2 (finalCount p))) (10 + 32 * p .k) (words (take (finalCount p) (now (numbers .entry)))) ⌝ }
+{
+    let count = params::final_count(p);
+    let at = 8 + 32 * p.k as usize;
+    buffer::put_count(file, at, count);
+    put_final(file, at + 2, numbers, count);
+    s.absorb_final(final_of(numbers, count), count)
+}
+
+// Section 4: the openings of the queries that the transcript draws.
+fn openings(p: Params, s: Transcript, numbers: &[u32], bytes: &[u8], file: &mut [u8])
+    requires { ⌜ Valid p × ((2 * 2 ^ p .n ≤ length (now numbers)) × ((64 * 2 ^ p .n ≤ length (now bytes)) × (fileLength p ≤ length (now file)))) ⌝ }
+    ensures { λ _. ⌜ now (file .exit) ≡ sets (sets (now (file .entry)) (10 + 32 * p .k + 4 * finalCount p) (le 2 (p .q))) (12 + 32 * p .k + 4 * finalCount p) (spec.queriesIn p sha256 (s .state) (now (numbers .entry)) (now (bytes .entry))) ⌝ }
+{
+    let at = params::queries_offset(p);
+    buffer::put_count(file, at - 2, p.q as usize);
+    crate::queries::queries(p, s, numbers, bytes, file, at);
+}
+
+// The file of a polynomial.
+pub fn file(
+    p: Params,
+    context: [u8; 32],
+    coefficients: &[u32],
+    numbers: &mut [u32],
+    bytes: &mut [u8],
+    file: &mut [u8],
+)
+    requires { ⌜ Valid p × ((length (now coefficients) ≡ 2 ^ (p .n - p .b)) × ((2 * 2 ^ p .n ≤ length (now numbers)) × ((64 * 2 ^ p .n ≤ length (now bytes)) × (length (now file) ≡ fileLength p)))) ⌝ }
+    ensures { λ _. ⌜ now (file .exit) ≡ builtFile sha256 p context (now (coefficients .entry)) ⌝ }
+{
+    buffer::put_numbers(numbers, coefficients);
+    head(p, file);
+    let committed = crate::layers::layers(p, Transcript::start(p, context), numbers, bytes, file);
+    let finished = finish(p, committed, &numbers[..], file);
+    openings(p, finished, &numbers[..], &bytes[..], file);
+}

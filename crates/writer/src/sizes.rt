@@ -1,0 +1,29 @@
+// Sizes by the parameters, which are powers of two.
+ghost use mathlib.Core.Path.{_≡_};
+ghost use Prim.Native.Nat.{_^_, _-_, _≤_};
+ghost use Rattle.params.specs.Parameters.{Valid};
+ghost use Rattle.polynomial.specs.Polynomial.{layerSize};
+use params::Params;
+
+pub fn power(bits: u8) -> usize
+    requires { ⌜ bits ≤ 30 ⌝ }
+    ensures { λ r. ⌜ (r ≡ 2 ^ bits) × (r ≤ 1073741824) ⌝ }
+{
+    1usize << bits
+}
+
+// The number of points of a layer.
+pub fn size_of(p: Params, layer: u8) -> usize
+    requires { ⌜ Valid p × (layer ≤ p .k) ⌝ }
+    ensures { λ r. ⌜ (r ≡ layerSize (p .n) layer) × (r ≤ 1073741824) ⌝ }
+{
+    power(p.n - layer)
+}
+
+// The number of coefficients of a layer's polynomial.
+pub fn count_of(p: Params, layer: u8) -> usize
+    requires { ⌜ Valid p × (layer ≤ p .k) ⌝ }
+    ensures { λ r. ⌜ (r ≡ 2 ^ (p .n - p .b - layer)) × (r ≤ 1073741824) ⌝ }
+{
+    power(p.n - p.b - layer)
+}

@@ -1,0 +1,90 @@
+-- The openings read from the writer's buffers, once all layers are done, are those of the built proof. Assumes nothing.
+use Prim.Native.Nat.{ℕ, zero, suc, _+_, _%_, _<_}
+use mathlib.Core.List.{List, _∷_, _++_, map}
+use mathlib.Core.Path.{_≡_, refl, sym, ap, ap₂, _∙_}
+use native.Mathlib.Omega.{arith}
+use lib.ListN.{length, getD}
+use Rattle.params.specs.declared.Params.{Params}
+use Rattle.params.specs.Parameters.{Valid, height, indexBits, finalCount}
+use Rattle.message.specs.Bytes.{le, joined, part}
+use Rattle.message.specs.Message.{Digest}
+use Rattle.domain.specs.Domain.{half, point}
+use Rattle.domain.proofs.Index.{mod-half}
+use Rattle.transcript.specs.Transcript.{finish, drawn}
+use Rattle.fold.specs.Poly.{eval}
+use Rattle.fri.specs.Encoding.{tabulate, openingBytes, queryBytes}
+use Rattle.fri.proofs.Tabulate.{tabulate-at, tabulate-same}
+use Rattle.buffer.proofs.Placed.{part-number}
+use Rattle.polynomial.specs.Polynomial.{layerSize, values}
+use Rattle.tree.specs.Tree.{siblingsIn, treeSize}
+use Rattle.tree.proofs.Path.{siblings-path}
+use Rattle.built.specs.Built.{leaves, layerAt, builtLeaf, openingOf, build}
+use Rattle.built.proofs.Layers.{leaves-length}
+use Rattle.writer_model.specs.Work.{Work, polyIn, valuesIn, treeStart, openingIn, queryIn, queriesIn, finalIn}
+use Rattle.writer_model.proofs.Stands.{Stands}
+use Rattle.writer_model.proofs.Layers.{halves, leaf-length}
+
+-- A function of each value.
+map-tabulate : {A B : Type 0} (f : A → B) (n : ℕ) (g : ℕ → A) → map f (tabulate n g) ≡ tabulate n (λ i. f (g i))
+unfolding tabulate
+map-tabulate f zero g = refl
+map-tabulate f (suc n) g = ap (λ xs. f (g 0) ∷ xs) (map-tabulate f n (λ i. g (suc i)))
+
+-- A layer has two points for each leaf.
+layer-halves : (n j : ℕ) → j < n → layerSize n j ≡ half n j + half n j
+unfolding layerSize half
+layer-halves n j h = halves n j h ∙ omega arith
+
+module _ (hash : List ℕ → Digest) (size : (xs : List ℕ) → length (hash xs) ≡ 32) (p : Params) (context f file : List ℕ) (v : Valid p)
+    (w : Work) (stands : Stands hash p context f file (p .k) w) where
+  abbrev poly : ℕ → List ℕ
+  poly j = layerAt hash p context f j .poly
+
+  -- The number at index i of layer j is the polynomial's value there.
+  value-in : (j i : ℕ) → j < p .k → i < layerSize (p .n) j → getD (w .numbers) (layerSize (p .n) j + i) 0 ≡ eval (poly j) (point (p .n) j i)
+  unfolding valuesIn values
+  value-in j i h l =
+      part-number (layerSize (p .n) j) (layerSize (p .n) j) i (w .numbers) l
+      ∙ ap (λ xs. getD xs i 0) (stands .values-in j h)
+      ∙ tabulate-at (layerSize (p .n) j) _ i 0 l
+
+  siblings-in : (j m : ℕ) → j < p .k → m < half (p .n) j
+      → siblingsIn (height p j) (part (treeStart p j) (treeSize (height p j)) (w .bytes)) m ≡ joined (openingOf hash p context f j m .siblings)
+  unfolding openingOf half
+  siblings-in j m h l =
+      ap (λ t. siblingsIn (height p j) t m) (stands .tree-in j h)
+      ∙ siblings-path hash size (height p j) (leaves hash p (poly j) j) m (leaves-length hash p (poly j) j) l (leaf-length hash p (poly j) j size)
+
+  -- The opening of leaf m of layer j.
+  pub opening-built : (j m : ℕ) → j < p .k → m < half (p .n) j
+      → openingIn p j m (w .numbers) (w .bytes) ≡ openingBytes (openingOf hash p context f j m)
+  unfolding openingIn openingBytes openingOf
+  opening-built j m h l =
+      let halves : layerSize (p .n) j ≡ half (p .n) j + half (p .n) j = layer-halves (p .n) j (omega arith) in
+      let along : layerSize (p .n) j + m + half (p .n) j ≡ layerSize (p .n) j + (m + half (p .n) j) = omega arith in
+      ap₂ (λ a r. le 4 a ++ r) (value-in j m h (omega arith))
+      (ap₂ (λ a r. le 4 a ++ r) (ap (λ i. getD (w .numbers) i 0) along ∙ value-in j (m + half (p .n) j) h (omega arith)) (siblings-in j m h l))
+
+  -- The final coefficients, and so the leaves that are drawn.
+  pub final-built : finalIn p hash w ≡ poly (p .k)
+  unfolding polyIn finalCount
+  final-built = stands .poly
+
+  leaf-built : (i : ℕ) → drawn hash (finish hash (w .state) (finalIn p hash w)) (indexBits p) i ≡ builtLeaf hash p context f i
+  unfolding builtLeaf
+  leaf-built i = ap₂ (λ s g. drawn hash (finish hash s g) (indexBits p) i) (stands .state) final-built
+
+  -- The openings of the query at leaf m, and those of all queries.
+  query-built : (m : ℕ) → queryIn p m (w .numbers) (w .bytes) ≡ queryBytes (tabulate (p .k) (λ j. openingOf hash p context f j (m % half (p .n) j)))
+  unfolding queryIn queryBytes
+  query-built m =
+      ap joined
+      (tabulate-same (p .k) _ _ (λ j h. opening-built j (m % half (p .n) j) h (mod-half (p .n) j m)) ∙ sym (map-tabulate openingBytes (p .k) _))
+
+  pub queries-built : queriesIn p hash (finish hash (w .state) (finalIn p hash w)) (w .numbers) (w .bytes)
+      ≡ joined (map queryBytes (build hash p context f .queries))
+  unfolding queriesIn build
+  queries-built =
+      ap joined
+      (tabulate-same (p .q) _ _ (λ i h. ap (λ m. queryIn p m (w .numbers) (w .bytes)) (leaf-built i) ∙ query-built (builtLeaf hash p context f i))
+      ∙ sym (map-tabulate queryBytes (p .q) _))

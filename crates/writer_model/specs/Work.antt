@@ -1,0 +1,113 @@
+-- The writer's buffers, step by step. Layer j has its values in the lent numbers and its tree
+-- in the lent bytes, each from the layer's size on; the polynomial stands in front of the numbers and is folded there.
+use Prim.Native.Nat.{ℕ, zero, suc, _+_, _*_, _^_, _-_, _%_}
+use mathlib.Core.List.{List, _++_}
+use lib.ListN.{take, getD}
+use lib.Seq.{sets}
+use Rattle.params.specs.declared.Params.{Params}
+use Rattle.params.specs.Parameters.{header, height, indexBits, finalCount}
+use Rattle.message.specs.Bytes.{le, joined, part, words}
+use Rattle.message.specs.Message.{Digest}
+use Rattle.domain.specs.Domain.{half}
+use Rattle.merkle.specs.Merkle.{rootOf}
+use Rattle.transcript.specs.Transcript.{start, absorb, challenge, finish, drawn}
+use Rattle.fold.specs.Poly.{fold}
+use Rattle.fri.specs.Encoding.{tabulate}
+use Rattle.polynomial.specs.Polynomial.{layerSize, values}
+use Rattle.tree.specs.Tree.{leafRow, rows, siblingsIn, treeSize}
+
+-- The lent buffers, and the transcript.
+pub record Work : Type 0 where
+  pub numbers : List ℕ
+  pub bytes : List ℕ
+  pub file : List ℕ
+  pub state : Digest
+
+abbrev pub work : List ℕ → List ℕ → List ℕ → Digest → Work
+work numbers bytes file state = record { numbers = numbers; bytes = bytes; file = file; state = state }
+
+module _ (p : Params) where
+  -- Layer j's polynomial, and its values.
+  unfoldable pub polyIn : ℕ → List ℕ → List ℕ
+  polyIn j numbers = take (2 ^ (p .n - p .b - j)) numbers
+
+  unfoldable pub valuesIn : ℕ → List ℕ → List ℕ
+  valuesIn j numbers = part (layerSize (p .n) j) (layerSize (p .n) j) numbers
+
+  -- The numbers after layer j's evaluation, and after its fold.
+  unfoldable pub withValues : ℕ → List ℕ → List ℕ
+  withValues j numbers = sets numbers (layerSize (p .n) j) (values (p .n) j (polyIn j numbers))
+
+  unfoldable pub withFold : ℕ → ℕ → List ℕ → List ℕ
+  withFold j β numbers = sets numbers 0 (fold β (polyIn j numbers))
+
+  -- Where layer j's tree starts.
+  abbrev pub treeStart : ℕ → ℕ
+  treeStart j = 32 * layerSize (p .n) j
+
+  -- The bytes of the opening of leaf m of layer j, those of a query, and those of all queries.
+  unfoldable pub openingIn : ℕ → ℕ → List ℕ → List ℕ → List ℕ
+  openingIn j m numbers bytes =
+      le 4 (getD numbers (layerSize (p .n) j + m) 0)
+      ++ (le 4 (getD numbers (layerSize (p .n) j + m + half (p .n) j) 0)
+      ++ siblingsIn (height p j) (part (treeStart j) (treeSize (height p j)) bytes) m)
+
+  unfoldable pub queryIn : ℕ → List ℕ → List ℕ → List ℕ
+  queryIn m numbers bytes = joined (tabulate (p .k) (λ j. openingIn j (m % half (p .n) j) numbers bytes))
+
+  module _ (hash : List ℕ → Digest) where
+    -- Layer j's tree and root over its values.
+    unfoldable pub treeIn : ℕ → List ℕ → List ℕ
+    treeIn j numbers = rows hash (height p j) (leafRow hash (height p j) (valuesIn j numbers))
+
+    unfoldable pub rootIn : ℕ → List ℕ → Digest
+    rootIn j numbers = rootOf hash (height p j) (leafRow hash (height p j) (valuesIn j numbers))
+
+    unfoldable pub queriesIn : Digest → List ℕ → List ℕ → List ℕ
+    queriesIn s numbers bytes = joined (tabulate (p .q) (λ i. queryIn (drawn hash s (indexBits p) i) numbers bytes))
+
+    -- One layer done: its values, its tree, its root in the file and in the transcript, and the fold.
+    unfoldable pub committed : ℕ → Work → Work
+    committed j w =
+        record {
+          numbers = withValues j (w .numbers);
+          bytes = sets (w .bytes) (treeStart j) (treeIn j (withValues j (w .numbers)));
+          file = sets (w .file) (8 + 32 * j) (rootIn j (withValues j (w .numbers)));
+          state = absorb hash (w .state) (rootIn j (withValues j (w .numbers)));
+        }
+
+    unfoldable pub layered : ℕ → Work → Work
+    layered j w =
+        record {
+          numbers = withFold j (challenge hash (committed j w .state)) (committed j w .numbers);
+          bytes = committed j w .bytes;
+          file = committed j w .file;
+          state = committed j w .state;
+        }
+
+    -- The first layers done.
+    unfoldable pub allLayered : ℕ → Work → Work
+    allLayered zero w = w
+    allLayered (suc j) w = layered j (allLayered j w)
+
+    -- The start: the coefficients in front of the numbers, and the file up to its first root.
+    unfoldable pub begun : List ℕ → List ℕ → List ℕ → List ℕ → List ℕ → Work
+    begun context f numbers bytes file =
+        record {
+          numbers = sets numbers 0 f;
+          bytes = bytes;
+          file = sets (sets (sets file 0 (le 2 4)) 2 (header p)) 6 (le 2 (p .k));
+          state = start hash (header p) context;
+        }
+
+    -- The end: what the file is once the final coefficients and the openings stand in it too.
+    abbrev pub finalIn : Work → List ℕ
+    finalIn w = take (finalCount p) (w .numbers)
+
+    unfoldable pub withFinal : Work → List ℕ
+    withFinal w = sets (sets (w .file) (8 + 32 * p .k) (le 2 (finalCount p))) (10 + 32 * p .k) (words (finalIn w))
+
+    unfoldable pub ended : Work → List ℕ
+    ended w =
+        sets (sets (withFinal w) (10 + 32 * p .k + 4 * finalCount p) (le 2 (p .q))) (12 + 32 * p .k + 4 * finalCount p)
+        (queriesIn (finish hash (w .state) (finalIn w)) (w .numbers) (w .bytes))

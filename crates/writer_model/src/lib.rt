@@ -1,0 +1,1 @@
+// The writer's buffers, step by step: definitions and theorems only.
