@@ -18,6 +18,7 @@ pub mod judge;
 pub mod merkle;
 #[path = "../tests/independent/params.rs"]
 pub mod params;
+pub mod point_by_point;
 #[path = "../tests/independent/proof.rs"]
 pub mod proof;
 #[path = "../tests/independent/rng.rs"]
@@ -27,6 +28,7 @@ pub mod sha256;
 pub mod streaming;
 #[path = "../tests/independent/transcript.rs"]
 pub mod transcript;
+#[path = "../tests/independent/writer.rs"]
 pub mod writer;
 
 use std::slice;
@@ -233,7 +235,7 @@ macro_rules! writers {
                 output: *mut u8,
                 output_len: usize,
             ) -> Answer {
-                writer::write(
+                point_by_point::write(
                     params,
                     context,
                     unsafe { slice::from_raw_parts(coefficients, coefficients_len) },

@@ -24,6 +24,35 @@ pub fn bytes_needed(params: Params) -> usize {
     64 << params.n
 }
 
+/// The tests in their order: the file's length, or the refusal of the first
+/// that fails. The last three are the buffers' lengths.
+pub fn tested(
+    params: Params,
+    coefficients: &[u32],
+    numbers: usize,
+    bytes: usize,
+    output: usize,
+) -> Result<usize, Answer> {
+    let refused = |number| Err(Answer::new(number, 0));
+    if !params.valid() {
+        return refused(PARAMETERS_NOT_VALID);
+    }
+    if coefficients.len() != coefficient_count(params) {
+        return refused(COEFFICIENT_COUNT_DIFFERS);
+    }
+    if coefficients.iter().any(|&coefficient| coefficient >= P) {
+        return refused(NUMBER_NOT_BELOW_P);
+    }
+    if numbers < numbers_needed(params) || bytes < bytes_needed(params) {
+        return refused(SCRATCH_TOO_SHORT);
+    }
+    let length = params.file_length();
+    if output < length {
+        return refused(OUTPUT_TOO_SHORT);
+    }
+    Ok(length)
+}
+
 /// Writes the proof to the front of the output and leaves all scratch zero, or
 /// refuses and touches no buffer.
 pub fn write(
@@ -34,23 +63,16 @@ pub fn write(
     bytes: &mut [u8],
     output: &mut [u8],
 ) -> Answer {
-    let refused = |number| Answer::new(number, 0);
-    if !params.valid() {
-        return refused(PARAMETERS_NOT_VALID);
-    }
-    if coefficients.len() != coefficient_count(params) {
-        return refused(COEFFICIENT_COUNT_DIFFERS);
-    }
-    if coefficients.iter().any(|&coefficient| coefficient >= P) {
-        return refused(NUMBER_NOT_BELOW_P);
-    }
-    if numbers.len() < numbers_needed(params) || bytes.len() < bytes_needed(params) {
-        return refused(SCRATCH_TOO_SHORT);
-    }
-    let length = params.file_length();
-    if output.len() < length {
-        return refused(OUTPUT_TOO_SHORT);
-    }
+    let length = match tested(
+        params,
+        coefficients,
+        numbers.len(),
+        bytes.len(),
+        output.len(),
+    ) {
+        Ok(length) => length,
+        Err(refusal) => return refusal,
+    };
 
     // Building takes its own memory; of the scratch only what is left counts.
     output[..length].copy_from_slice(&build(params, context, coefficients));

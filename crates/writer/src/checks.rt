@@ -1,6 +1,7 @@
 // The writer's tests, in their order.
 ghost use mathlib.Core.Path.{_≡_};
 ghost use Rattle.writer.specs.Writer as spec;
+use field::Felt;
 use params::Params;
 
 // Whether every coefficient is below the modulus.
@@ -9,7 +10,7 @@ fn all_below(coefficients: &[u32]) -> bool
 {
     let mut i = 0;
     while i < coefficients.len() {
-        if 3221225473 <= coefficients[i] {
+        if Felt::MODULUS <= coefficients[i] {
             return false;
         }
         i += 1;

@@ -1,11 +1,10 @@
 // The layers: each is evaluated, committed and folded.
 ghost use mathlib.Core.Path.{_≡_};
-ghost use Prim.Native.Nat.{_+_, _*_, _^_, _-_, _≤_, _<_};
+ghost use Prim.Native.Nat.{_+_, _*_, _^_, _≤_, _<_};
 ghost use lib.ListN.{length};
 ghost use lib.Seq.{sets};
 ghost use Rattle.sha256.specs.Sha256.{sha256};
 ghost use Rattle.params.specs.Parameters.{Valid};
-ghost use Rattle.transcript.specs.Transcript as transcript;
 ghost use Rattle.writer_model.specs.Work as spec;
 use params::Params;
 use transcript::Transcript;

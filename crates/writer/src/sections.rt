@@ -1,6 +1,6 @@
 // The file: its four sections, one after the other.
 ghost use mathlib.Core.Path.{_≡_};
-ghost use Prim.Native.Nat.{_+_, _*_, _^_, _-_, _≤_, _<_};
+ghost use Prim.Native.Nat.{_+_, _*_, _^_, _-_, _≤_};
 ghost use lib.ListN.{length, take};
 ghost use lib.Seq.{sets};
 ghost use Rattle.sha256.specs.Sha256.{sha256};

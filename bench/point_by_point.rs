@@ -2,31 +2,14 @@
 //! evaluated point by point, and its tree stays in the lent bytes until the
 //! queries are answered.
 
-use crate::answer::{
-    Answer, COEFFICIENT_COUNT_DIFFERS, NUMBER_NOT_BELOW_P, OUTPUT_TOO_SHORT, PARAMETERS_NOT_VALID,
-    SCRATCH_TOO_SHORT, WRITTEN,
-};
+use crate::answer::{Answer, WRITTEN};
 use crate::domain::Coset;
-use crate::field::{add, mul, P};
+use crate::field::{add, mul};
 use crate::merkle::{leaf, node};
 use crate::params::Params;
 use crate::sha256::Digest;
 use crate::transcript::Transcript;
-
-/// The coefficients of a polynomial, for valid parameters.
-pub fn coefficient_count(params: Params) -> usize {
-    1 << (params.n - params.b)
-}
-
-/// The least scratch, for valid parameters: its numbers.
-pub fn numbers_needed(params: Params) -> usize {
-    2 << params.n
-}
-
-/// The least scratch, for valid parameters: its bytes.
-pub fn bytes_needed(params: Params) -> usize {
-    64 << params.n
-}
+use crate::writer::tested;
 
 /// Writes the proof to the front of the output and leaves all scratch zero, or
 /// refuses and touches no buffer. `eval` is the value of a polynomial at a point.
@@ -39,23 +22,16 @@ pub fn write(
     output: &mut [u8],
     eval: impl Fn(&[u32], u32) -> u32,
 ) -> Answer {
-    let refused = |number| Answer::new(number, 0);
-    if !params.valid() {
-        return refused(PARAMETERS_NOT_VALID);
-    }
-    if coefficients.len() != coefficient_count(params) {
-        return refused(COEFFICIENT_COUNT_DIFFERS);
-    }
-    if coefficients.iter().any(|&coefficient| coefficient >= P) {
-        return refused(NUMBER_NOT_BELOW_P);
-    }
-    if numbers.len() < numbers_needed(params) || bytes.len() < bytes_needed(params) {
-        return refused(SCRATCH_TOO_SHORT);
-    }
-    let length = params.file_length();
-    if output.len() < length {
-        return refused(OUTPUT_TOO_SHORT);
-    }
+    let length = match tested(
+        params,
+        coefficients,
+        numbers.len(),
+        bytes.len(),
+        output.len(),
+    ) {
+        Ok(length) => length,
+        Err(refusal) => return refusal,
+    };
 
     // A layer of so many points has its values that many numbers from the front,
     // and its tree that many digests. The polynomial is in front of both.
