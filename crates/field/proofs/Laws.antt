@@ -105,6 +105,10 @@ pub mulMod-zero : (a : ℕ) → mulMod 0 a ≡ 0
 unfolding mulMod
 mulMod-zero a = simp zero-mul
 
+pub mulMod-two : (a : ℕ) → mulMod 2 a ≡ addMod a a
+unfolding addMod mulMod
+mulMod-two a = omega arith
+
 pub mulMod-addMod : (a b c : ℕ) → mulMod a (addMod b c) ≡ addMod (mulMod a b) (mulMod a c)
 unfolding addMod mulMod
 mulMod-addMod a b c = simp (mul-mod, mod-add-mod, add-mod-mod, mul-add)

@@ -1,5 +1,6 @@
 -- The laws of the field. Other crates cite `Laws`, `Inverse` and `Subgroup`.
 pub mod Remainder
+pub mod Reduction
 pub mod Laws
 pub mod CheckedLaws
 pub mod Squares
@@ -9,3 +10,4 @@ pub mod Inverse
 pub mod Table
 pub mod Subgroup
 pub mod Ring
+mod Ninths

@@ -1,7 +1,7 @@
 // The prime field p = 3·2^30 + 1 (document 01, "The field"). The functions on u32 are total and reduce any argument; the methods of `Felt`
 // refuse an argument that is not below p.
 ghost use mathlib.Core.Path.{_≡_};
-ghost use Prim.Native.Nat.{_%_, _<_};
+ghost use Prim.Native.Nat.{_+_, _*_, _%_, _≤_, _<_};
 ghost use Rattle.field.specs.Modular.{p, addMod, subMod, mulMod, negMod, powMod, invMod, generator, subgroupGenerator};
 ghost use Rattle.field.specs.Checked.{refusal, success, checked, sumAnswer, differenceAnswer, productAnswer, negationAnswer, powerAnswer, inverseAnswer};
 use answer::Answer;
@@ -19,23 +19,67 @@ pub struct FieldAnswer {
     pub value: Felt,
 }
 
+const P: u64 = 3221225473;
+
+const TWICE_P: u64 = 6442450946;
+
+// 2^30: p is three of these units and 1.
+const UNIT: u64 = 1073741824;
+
+// The last correction: the remainder of a number below 2p.
+fn correct(a: u64) -> u32
+    requires { ⌜ a < p + p ⌝ }
+    ensures { λ r. ⌜ r ≡ a % p ⌝ }
+{
+    if a < P { a as u32 } else { (a - P) as u32 }
+}
+
+// A third of a number, times 2^32 and rounded down: its quarter, its sixteenth and so on to the sixteenth such part. Four sums make the sixteen, each of what
+// was summed so far and the same in further places.
+fn third(a: u64) -> u64
+    requires { ⌜ a < 8589934592 ⌝ }
+    ensures { λ r. ⌜ r ≡ 1431655765 * a ⌝ }
+{
+    let two = a + 4 * a;
+    let four = two + 16 * two;
+    let eight = four + 256 * four;
+    eight + 65536 * eight
+}
+
+// How often p is in a, or once less: two thirds of the times that 2^31 is, since p is 3·2^30 + 1. That is too much by the 1 in p, but for an eighth of those
+// times, taken off in the last place.
+fn quotient(a: u64) -> u64
+    ensures { λ r. ⌜ (p * r ≤ a) × (a < p * r + (p + p)) ⌝ }
+{
+    let times = a / 2147483648;
+    (third(times) - times / 8) / 2147483648
+}
+
+// The remainder of any number, or p more. It divides by powers of two alone.
+fn reduce_lazily(a: u64) -> u64
+    ensures { λ r. ⌜ (r < p + p) × (r % p ≡ a % p) ⌝ }
+{
+    let q = quotient(a);
+    a - q - UNIT * (q + 2 * q)
+}
+
 // The remainder of any number.
 pub fn reduce(a: u64) -> u32
     ensures { λ r. ⌜ r ≡ a % p ⌝ }
 {
-    (a % 3221225473) as u32
+    correct(reduce_lazily(a))
 }
 
 pub fn add(a: u32, b: u32) -> u32
     ensures { λ r. ⌜ r ≡ addMod a b ⌝ }
 {
-    reduce(a as u64 + b as u64)
+    correct(correct(a as u64) as u64 + correct(b as u64) as u64)
 }
 
 pub fn sub(a: u32, b: u32) -> u32
     ensures { λ r. ⌜ r ≡ subMod a b ⌝ }
 {
-    reduce(a as u64 + (Felt::MODULUS - b % Felt::MODULUS) as u64)
+    correct(correct(a as u64) as u64 + (Felt::MODULUS - correct(b as u64)) as u64)
 }
 
 pub fn mul(a: u32, b: u32) -> u32
@@ -44,31 +88,61 @@ pub fn mul(a: u32, b: u32) -> u32
     reduce(a as u64 * b as u64)
 }
 
+// A product and a number, reduced together.
+pub fn mul_add(a: u32, b: u32, c: u32) -> u32
+    ensures { λ r. ⌜ r ≡ addMod c (mulMod a b) ⌝ }
+{
+    reduce(a as u64 * b as u64 + c as u64)
+}
+
+// The sum of two products, reduced together.
+pub fn sum_of_products(a: u32, b: u32, c: u32, d: u32) -> u32
+    ensures { λ r. ⌜ r ≡ addMod (mulMod a b) (mulMod c d) ⌝ }
+{
+    let sum = reduce_lazily(a as u64 * b as u64) + reduce_lazily(c as u64 * d as u64);
+    if sum < TWICE_P {
+        correct(sum)
+    } else {
+        correct(sum - TWICE_P)
+    }
+}
+
 pub fn neg(a: u32) -> u32
     ensures { λ r. ⌜ r ≡ negMod a ⌝ }
 {
-    (Felt::MODULUS - a % Felt::MODULUS) % Felt::MODULUS
+    correct((Felt::MODULUS - correct(a as u64)) as u64)
 }
 
-// Powers by two rules that call each other. An odd exponent multiplies once and passes the rest to the even rule, which halves the exponent, squares the
-// base and passes back: to the odd rule where the half is odd, else to itself. The exponent falls at each call. What was multiplied so far goes along, so
-// that every call is the last thing its caller does.
-fn power_odd(product: u32, a: u32, e: u32) -> u32
-    requires { ⌜ (product < p) × (e % 2 ≡ 1) ⌝ }
-    ensures { λ r. ⌜ r ≡ mulMod product (powMod a e) ⌝ }
+// The product of ninths, not reduced: of a ninth of one number and a ninth of another, a ninth of their product. Three times a number is three times its last
+// 30 bits less the rest, since 3·2^30 is −1; two such folds bring nine times a product below 2^32. The 6p that is added, and the 8 that moves from the first
+// fold to the second, where it is 24, keep both differences above 0. 19327352830 is 6p − 8.
+fn mul_ninths(a: u32, b: u32) -> u32
+    ensures { λ r. ⌜ mulMod 9 r ≡ mulMod (mulMod 9 a) (mulMod 9 b) ⌝ }
 {
-    power_even(mul(product, a), a, e - 1)
+    let product = a as u64 * b as u64;
+    let three = 3 * (product % UNIT) + (19327352830 - product / UNIT);
+    (3 * (three % UNIT) + (24 - three / UNIT)) as u32
+}
+
+// Powers by two rules that call each other, on ninths. An odd exponent multiplies once and passes the rest to the even rule, which halves the exponent,
+// squares the base and passes back: to the odd rule where the half is odd, else to itself. The exponent falls at each call. What was multiplied so far goes
+// along, so that every call is the last thing its caller does.
+fn power_odd(product: u32, a: u32, e: u32) -> u32
+    requires { ⌜ e % 2 ≡ 1 ⌝ }
+    ensures { λ r. ⌜ mulMod 9 r ≡ mulMod (mulMod 9 product) (powMod (mulMod 9 a) e) ⌝ }
+{
+    power_even(mul_ninths(product, a), a, e - 1)
 }
 
 fn power_even(product: u32, a: u32, e: u32) -> u32
-    requires { ⌜ (product < p) × (e % 2 ≡ 0) ⌝ }
-    ensures { λ r. ⌜ r ≡ mulMod product (powMod a e) ⌝ }
+    requires { ⌜ e % 2 ≡ 0 ⌝ }
+    ensures { λ r. ⌜ mulMod 9 r ≡ mulMod (mulMod 9 product) (powMod (mulMod 9 a) e) ⌝ }
 {
     if e == 0 {
         return product;
     }
     let half = e / 2;
-    let square = mul(a, a);
+    let square = mul_ninths(a, a);
     if half % 2 == 1 {
         power_odd(product, square, half)
     } else {
@@ -76,14 +150,22 @@ fn power_even(product: u32, a: u32, e: u32) -> u32
     }
 }
 
+// A ninth of any power, from a ninth of 1 and a ninth of the base: 715827883 is 1/9, 2942847963 is 1/81.
+fn power_ninth(a: u32, e: u32) -> u32
+    ensures { λ r. ⌜ mulMod 9 r ≡ powMod a e ⌝ }
+{
+    let ninth = mul_ninths(a, 2942847963);
+    if e % 2 == 1 {
+        power_odd(715827883, ninth, e)
+    } else {
+        power_even(715827883, ninth, e)
+    }
+}
+
 pub fn pow(a: u32, e: u32) -> u32
     ensures { λ r. ⌜ r ≡ powMod a e ⌝ }
 {
-    if e % 2 == 1 {
-        power_odd(1, a, e)
-    } else {
-        power_even(1, a, e)
-    }
+    mul(9, power_ninth(a, e))
 }
 
 // The inverse of any number that p does not divide, and 0 of a multiple of p.
