@@ -130,16 +130,16 @@ module _ (l : List ℕ) (β : ℕ) where
       ∙ getD-drop i l (k - i) 0
       ∙ ap (λ (n : ℕ). getD l n 0) back
 
-  pub fold-turn : {d : List ℕ} {m v : ℕ} (i : ℕ) → 2 * i + 1 < length l → d ≡ fold β (take (2 * i) l) ++ drop i l
-      → m ≡ mulMod β (getD d (2 * i + 1) 0) → v ≡ addMod (getD d (2 * i) 0) m → set d i v ≡ fold β (take (2 * (i + 1)) l) ++ drop (i + 1) l
-  fold-turn {d} {m} {v} i h e f g =
+  pub fold-turn : {d : List ℕ} {v : ℕ} (i : ℕ) → 2 * i + 1 < length l → d ≡ fold β (take (2 * i) l) ++ drop i l
+      → v ≡ addMod (getD d (2 * i) 0) (mulMod β (getD d (2 * i + 1) 0)) → set d i v ≡ fold β (take (2 * (i + 1)) l) ++ drop (i + 1) l
+  fold-turn {d} {v} i h e f =
       let even : getD d (2 * i) 0 ≡ getD l (2 * i) 0 = fold-kept i (2 * i) (omega arith) (omega arith) e in
       let odd : getD d (2 * i + 1) 0 ≡ getD l (suc (2 * i)) 0 = fold-kept i (2 * i + 1) (omega arith) (omega arith) e ∙ ap (λ (n : ℕ). getD l n 0) (add-one (2 * i)) in
       let here : drop i l ≡ getD l i 0 ∷ drop (suc i) l = drop-cons l i 0 (omega arith) in
       let two : 2 * (i + 1) ≡ suc (suc (2 * i)) = omega arith in
       ap (λ (x : List ℕ). set x i v) (e ∙ ap (λ (x : List ℕ). fold β (take (2 * i) l) ++ x) here)
       ∙ set-at (fold β (take (2 * i) l)) (getD l i 0) (drop (suc i) l) v i (front-length β i l (omega arith))
-      ∙ rw (g, f, even, odd, two, fold-more β i l (omega arith), append-snoc, add-one i)
+      ∙ rw (f, even, odd, two, fold-more β i l (omega arith), append-snoc, add-one i)
 
   pub fold-end : {d : List ℕ} (i : ℕ) → length l % 2 ≡ 0 → i ≡ length l / 2 → d ≡ fold β (take (2 * i) l) ++ drop i l → d ≡ foldedInPlace β l
   unfolding foldedInPlace

@@ -1,8 +1,7 @@
 // A polynomial in lent numbers: its values in a layer, and its fold in place.
 ghost use mathlib.Core.Path.{_≡_};
 ghost use Prim.Native.Nat.{_+_, _*_, _≤_};
-ghost use lib.ListN.{length, take};
-ghost use Rattle.fold.specs.Poly.{eval};
+ghost use lib.ListN.{length};
 ghost use Rattle.polynomial.specs.Polynomial as spec;
 
 // The number of points of a layer, where n is at most 30 and the layer at most n.
@@ -14,20 +13,6 @@ fn layer_size(n: u8, layer: u8) -> usize
     1usize << bits
 }
 
-// The value at x of the polynomial with the first count numbers as coefficients, by Horner's rule.
-fn horner(numbers: &[u32], count: usize, x: u32) -> u32
-    requires { ⌜ count ≤ length (now numbers) ⌝ }
-    ensures { λ r. ⌜ r ≡ eval (take count (now (numbers .entry))) x ⌝ }
-{
-    let mut i = count;
-    let mut value = 0;
-    while 0 < i {
-        i -= 1;
-        value = field::add(numbers[i], field::mul(x, value));
-    }
-    value
-}
-
 // Point by point, each point the one before times the root.
 fn evaluate(room: &mut [u32], count: usize, size: usize, n: u8, layer: u8)
     requires { ⌜ ((layer ≤ n) × (n ≤ 30)) × ((count ≤ size) × ((size ≡ spec.layerSize n layer) × (length (now room) ≡ 2 * size))) ⌝ }
@@ -37,7 +22,7 @@ fn evaluate(room: &mut [u32], count: usize, size: usize, n: u8, layer: u8)
     let mut x = domain::point(n, layer, 0);
     let mut i = 0;
     while i < size {
-        let value = horner(&room[..], count, x);
+        let value = fold::eval_lent(&room[..], count, x);
         room[size + i] = value;
         x = field::mul(x, root);
         i += 1;
@@ -70,7 +55,7 @@ pub fn fold(poly: &mut [u32], beta: u32)
         while i < half {
             let even = poly[2 * i];
             let odd = poly[2 * i + 1];
-            poly[i] = field::add(even, field::mul(beta, odd));
+            poly[i] = field::mul_add(beta, odd, even);
             i += 1;
         }
     }

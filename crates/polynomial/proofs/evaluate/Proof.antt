@@ -34,8 +34,8 @@ point-requires c κs = search needs
 loop-holds : tie.Need-loop-holds Inv-loop μ-loop
 loop-holds c = (search needs, (search needs, (c .point .ensures, values-start _ _ _ _ _)))
 
-horner-requires : tie.Need-horner-requires Inv-loop μ-loop
-horner-requires c κs = search needs
+eval-lent-requires : tie.Need-eval-lent-requires Inv-loop μ-loop
+eval-lent-requires c κs = search needs
 
 add-room : tie.Need-add-room Inv-loop μ-loop
 add-room c = search needs
@@ -61,7 +61,7 @@ loop-again c =
     let a = c .before .before .before .before .before .before .before .before .args in
     let root = c .before .before .before .before .before .before .subgroup-generator .ensures in
     let x-next = c .mul .ensures ∙ point-next (a .n) (a .layer) (l .i) (search needs) (search needs) (l .inv .1 .1 .0) root in
-    let room-next = values-turn _ _ _ _ _ (l .i) (search needs) (search needs) (l .inv .1 .1 .1) (l .inv .1 .1 .0) (c .before .horner .ensures) in
+    let room-next = values-turn _ _ _ _ _ (l .i) (search needs) (search needs) (l .inv .1 .1 .1) (l .inv .1 .1 .0) (c .before .eval-lent .ensures) in
     (search needs, (search needs, (x-next, room-next)))
 
 same-length : tie.Need-same-length Inv-loop μ-loop
@@ -83,7 +83,7 @@ evaluate-spec =
     subgroup-generator-requires
     point-requires
     loop-holds
-    horner-requires
+    eval-lent-requires
     add-room
     mul-room
     slice-write-room

@@ -41,11 +41,8 @@ mul-odd-2 c = search needs
 slice-read-odd : tie.Need-slice-read-odd Inv-loop μ-loop
 slice-read-odd c = search needs
 
-mul-requires : tie.Need-mul-requires Inv-loop μ-loop
-mul-requires c κs = search needs
-
-add-requires : tie.Need-add-requires Inv-loop μ-loop
-add-requires c κs = search needs
+mul-add-requires : tie.Need-mul-add-requires Inv-loop μ-loop
+mul-add-requires c κs = search needs
 
 mul-poly : tie.Need-mul-poly Inv-loop μ-loop
 mul-poly c = search needs
@@ -61,8 +58,8 @@ loop-less c = search needs
 
 loop-again : tie.Need-loop-again Inv-loop μ-loop
 loop-again c =
-    let l = c .before .before .before .before .before .loop in
-    (search needs, (search needs, fold-turn _ _ (l .i) (omega arith) (l .inv .1 .1) (c .before .mul .ensures) (c .add .ensures)))
+    let l = c .before .before .before .before .loop in
+    (search needs, (search needs, fold-turn _ _ (l .i) (omega arith) (l .inv .1 .1) (c .mul-add .ensures)))
 
 same-length : tie.Need-same-length Inv-loop μ-loop
 same-length c = search needs
@@ -89,8 +86,7 @@ fold-spec =
     add-odd
     mul-odd-2
     slice-read-odd
-    mul-requires
-    add-requires
+    mul-add-requires
     mul-poly
     slice-write-poly
     add-i
