@@ -25,6 +25,7 @@ fn main() {
     inverses(&mut table, &mut rng);
     points(&mut table, &mut rng);
     evaluations(&mut table, &mut rng);
+    coefficient_folds(&mut table, &mut rng);
     folds(&mut table, &mut rng);
     verdicts(&mut table, &mut rng);
     writings(&mut table, &mut rng);
@@ -214,16 +215,47 @@ fn points(table: &mut Table, rng: &mut Rng) {
 
 fn evaluations(table: &mut Table, rng: &mut Rng) {
     type Call = extern "C" fn(&Coefficients, usize, u32) -> u32;
-    let sides = Sides::<Call> {
-        ours: ours::test_eval,
-        peer: peers::eval,
-    };
     let coefficients: Coefficients = std::array::from_fn(|_| rng.element());
+    let points = rng.elements(128);
+    for count in [1, 8, 64] {
+        let batch = |peer: Call| {
+            let ours = ours::test_eval;
+            let sides = Sides::<Call> { ours, peer };
+            Batch::each(sides, points.clone(), 0, move |call, &x, value| {
+                *value = call(&coefficients, count, x)
+            })
+        };
+        table.row(format!("eval of {count} coefficients"), batch(peers::eval));
+        table.row(
+            format!("eval of {count} coefficients; Rust with one remainder a step"),
+            batch(peers::eval_one_remainder),
+        );
+    }
+}
+
+// A slice of products in one call: each pair of coefficients is folded in place.
+fn coefficient_folds(table: &mut Table, rng: &mut Rng) {
+    const COUNT: usize = 2048;
+    type Call = unsafe extern "C" fn(*mut u32, usize, u32);
+    let poly = rng.elements(COUNT);
+    let beta = rng.element();
+    let batch = |peer: Call| {
+        let ours = ours::test_fold_in_place;
+        let sides = Sides::<Call> { ours, peer };
+        let poly = poly.clone();
+        Batch::new(COUNT / 2, sides, vec![0; COUNT], move |call, folded| {
+            folded.copy_from_slice(&poly);
+            // The pointer and the length are those of one slice.
+            unsafe { call(folded.as_mut_ptr(), folded.len(), beta) }
+        })
+    };
     table.row(
-        "eval of 64 coefficients",
-        Batch::each(sides, rng.elements(128), 0, move |call, &x, value| {
-            *value = call(&coefficients, coefficients.len(), x)
-        }),
+        "fold of coefficients over a slice, a product and a sum each",
+        batch(peers::fold),
+    );
+    table.row(
+        "fold of coefficients over a slice; Rust with one remainder",
+        batch(peers::fold_one_remainder),
     );
 }
 

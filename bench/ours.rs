@@ -24,6 +24,8 @@ unsafe extern "C" {
 
     pub safe fn test_point(n: u8, layer: u8, index: u32) -> u32;
     pub safe fn test_eval(coefficients: &Coefficients, count: usize, x: u32) -> u32;
+    /// The pointer must be good for `len` numbers.
+    pub unsafe fn test_fold_in_place(poly: *mut u32, len: usize, beta: u32);
     pub safe fn test_agrees(x: u32, beta: u32, a: u32, c: u32, v: u32) -> bool;
 
     /// The proof must be readable for `len` bytes.

@@ -208,13 +208,42 @@ pub unsafe extern "C" fn verdict_by_calls(
     reader.finish()
 }
 
-/// Horner's rule with one remainder a step: a product and a number fit in 64 bits.
-/// `fold::eval` takes two, of the product and of the sum, and so does the library.
+/// A product and a number with one remainder: together they fit in 64 bits.
+/// `field::add` of `field::mul` takes two, of the product and of the sum.
+fn mul_add(a: u32, b: u32, c: u32) -> u32 {
+    ((a as u64 * b as u64 + c as u64) % P as u64) as u32
+}
+
+/// Horner's rule with one remainder a step; `fold::eval` takes two.
 fn eval_by_one_remainder(coefficients: &[u32], x: u32) -> u32 {
-    let step = |value: u32, &coefficient: &u32| {
-        ((value as u64 * x as u64 + coefficient as u64) % P as u64) as u32
-    };
+    let step = |value: u32, &coefficient: &u32| mul_add(value, x, coefficient);
     coefficients.iter().rev().fold(0, step)
+}
+
+#[inline(never)]
+pub extern "C" fn eval_one_remainder(coefficients: &Coefficients, count: usize, x: u32) -> u32 {
+    eval_by_one_remainder(&coefficients[..count.min(coefficients.len())], x)
+}
+
+/// Each pair of coefficients to the even one plus β times the odd one, in place.
+fn fold_in_place(poly: &mut [u32], pair: impl Fn(u32, u32) -> u32) {
+    for i in 0..poly.len() / 2 {
+        poly[i] = pair(poly[2 * i], poly[2 * i + 1]);
+    }
+}
+
+/// The pointer must be good for `len` numbers.
+#[inline(never)]
+pub unsafe extern "C" fn fold(poly: *mut u32, len: usize, beta: u32) {
+    let poly = unsafe { slice::from_raw_parts_mut(poly, len) };
+    fold_in_place(poly, |even, odd| field::add(even, field::mul(beta, odd)));
+}
+
+/// The pointer must be good for `len` numbers.
+#[inline(never)]
+pub unsafe extern "C" fn fold_one_remainder(poly: *mut u32, len: usize, beta: u32) {
+    let poly = unsafe { slice::from_raw_parts_mut(poly, len) };
+    fold_in_place(poly, |even, odd| mul_add(beta, odd, even));
 }
 
 /// The ordinary writer with a way to evaluate a polynomial at a point.

@@ -7,6 +7,7 @@ For each public call (a `pub fn` that another crate can name, and every exported
             which neither the result nor anything left behind occurs;
   meaning   every symbol of the contract comes from the library, every other name from a `specs` file or the call's own parameters; and no
             specs file defines, under its own meaning, a name that the library has.
+It checks that the code of the field and of what evaluates with it divides by powers of two alone.
 Then it checks the papers: each must-fail edit fits its file at exactly one place and is named in docs/PROMISES.md, each public call has its two
 wrong programs there, and every file that the papers name is there. No axiom is declared and no proof cites `lem` or `ac`.
 
@@ -22,6 +23,7 @@ LANGUAGE = set("λ . , ( ) { } ⌜ ⌝ × → :".split())  # the contract langua
 WORDS = {"now", "entry", "exit", "tt"}  # its own words: a reference's value, at the call and at the return
 ASSEMBLES = {"replied", "outcome", "buffer"}  # records made of their arguments: an equation of one pins every argument
 OUTSIDE = {"job::judge"}  # its result hangs on what a descriptor gives: the contract states what all correct ones have in common
+BY_POWERS_OF_TWO = ["field", "fold"]  # their code divides and takes remainders by nothing else (request 2026-03)
 TESTS_ONLY = {"test_exports"}  # passes calls on to the comparisons; no interface for users
 
 faults = []
@@ -252,6 +254,18 @@ def without_contracts(text):
     return text.split()
 
 
+def check_divisions():
+    """Every divisor in these crates is a numeral, or a constant of the file, that is a power of two."""
+    for crate in BY_POWERS_OF_TWO:
+        for path, _, _ in source(crate):
+            code = " ".join(without_contracts(path.read_text()))
+            constants = dict(re.findall(r"const (\w+): \w+ = (\d+);", code))
+            for divisor in re.findall(r"[/%]=? *([\w:]+)", code):
+                number = constants.get(divisor, divisor)
+                if not number.isdecimal() or int(number).bit_count() != 1:
+                    fault(path.relative_to(ROOT), f"divides by {divisor}, not by a power of two")
+
+
 def kinds_of(before, after):
     """What an edit changes: code, the contract of a function that is there, definitions or proofs. `before` and `after` are path → text."""
     kinds = set()
@@ -380,6 +394,7 @@ def main():
             check_tight(call, fields_of)
         check_meaning(call)
     check_names()
+    check_divisions()
     promises = (ROOT / "docs" / "PROMISES.md").read_text()
     edits = check_edits(promises)
     check_wrong_programs(calls, edits, promises)

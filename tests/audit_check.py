@@ -22,11 +22,13 @@ CHANGES = [
     ("crates/reader/src/lib.rt", "replied (r .answer) (r .core)", "replied (r .answer) core", "reader::piece_in_place: the contract does not pin core of Progress"),
     ("crates/fold/specs/Fold.antt", "-- 2·x\n", "abbrev pub length : ℕ → ℕ\nlength x = x\n\n-- 2·x\n", "defines 'length', a name of the library"),
     ("crates/field/proofs/Laws.antt", "\npub mulMod-lt", "\naxiom pub mulMod-none : Unit\n\npub mulMod-lt", "an axiom"),
-    ("crates/fold/must-fail/scale_is_the_square.edit", "old: ", "old: not there ", "its text stands 0 times"),
+    ("crates/fold/must-fail/scale_adds_one.edit", "old: ", "old: not there ", "its text stands 0 times"),
     ("docs/PROMISES.md", "| `fold::scale` |", "| `fold::scales` |", "fold::scale: has 0 wrong programs"),
-    ("crates/fold/must-fail/scale_is_the_square.edit", "old:     field::mul(2, x)\nnew:     field::mul(x, x)", "old: ⌜ r ≡ spec.scale x ⌝\nnew: ⌜ r ≡ x ⌝", "fold::scale: has 1 wrong programs"),
-    ("crates/fold/must-fail/scale_is_the_square.edit", "file: ", "file: specs/Fold.antt\nold: -- 2·x\nnew: -- x·2\nfile: ", "fold::scale: has 1 wrong programs"),
-    ("crates/fold/must-fail/scale_is_the_square.edit", "old:     field::mul(2, x)\nnew:     field::mul(x, x)", "old: // What the scale times\nnew: // What the scale", "changes neither code nor a statement"),
+    ("crates/fold/must-fail/scale_adds_one.edit", "old: field::add(x, x)\nnew: field::add(x, 1)", "old: ⌜ r ≡ spec.scale x ⌝\nnew: ⌜ r ≡ x ⌝", "fold::scale: has 1 wrong programs"),
+    ("crates/fold/must-fail/scale_adds_one.edit", "file: ", "file: specs/Fold.antt\nold: -- 2·x\nnew: -- x·2\nfile: ", "fold::scale: has 1 wrong programs"),
+    ("crates/fold/must-fail/scale_adds_one.edit", "old: field::add(x, x)\nnew: field::add(x, 1)", "old: // What the scale times\nnew: // What the scale", "changes neither code nor a statement"),
+    ("crates/field/src/lib.rt", "    correct(reduce_lazily(a))\n", "    (a % P) as u32\n", "field/src/lib.rt: divides by P, not by a power of two"),
+    ("crates/fold/src/lib.rt", "product % UNIT", "product % Felt::MODULUS", "fold/src/lib.rt: divides by Felt::MODULUS, not by a power of two"),
     ("docs/PROMISES.md", "FoldLaws: fold-law`", "FoldLaws: fold-low`", "fold/FoldLaws has no fold-low"),
 ]
 

@@ -77,6 +77,7 @@ pub fn parts(rounds: usize) {
     compare_final_counts();
     compare_folds(rounds);
     compare_eval(rounds);
+    compare_folds_in_place(rounds);
     println!("0 disagreements");
 }
 
@@ -114,15 +115,27 @@ fn compare_constants() {
 fn compare_field(rounds: usize) {
     let mut edges = EDGES.to_vec();
     edges.extend((0..=field::LARGEST_SUBGROUP).map(field::subgroup_generator));
+    edges.extend(
+        [17, 30, 31]
+            .map(|bits| 1 << bits)
+            .iter()
+            .flat_map(|&x: &u32| [x - 1, x, x + 1]),
+    );
     let mut pairs = Vec::new();
     for &a in &edges {
         pairs.extend(edges.iter().map(|&b| (a, b)));
     }
     let mut rng = Rng::new(101);
     for round in 0..rounds {
-        pairs.push(match round % 2 {
+        pairs.push(match round % 3 {
             0 => (rng.word(), rng.word()),
-            _ => (rng.element(), rng.element()),
+            1 => (rng.element(), rng.element()),
+            // A product whose remainder is next to 0 or next to p.
+            _ => {
+                let a = rng.element();
+                let product = [0, 1, 2, P - 2, P - 1][rng.below(5)];
+                (a, field::mul(product, field::inv(a)))
+            }
         });
     }
 
@@ -173,6 +186,20 @@ fn compare_field(rounds: usize) {
     on_pairs("neg", &pairs, |a, _| field::neg(a), |a, _| ffi::neg(a));
     on_pairs("pow", &pairs, field::pow, ffi::pow);
     on_pairs("inv", &pairs, |a, _| field::inv(a), |a, _| ffi::inv(a));
+
+    let mut mul_add = Comparison::of("mul_add");
+    let mut sums = Comparison::of("sum_of_products");
+    for (&(a, b), &(c, d)) in pairs.iter().zip(pairs.iter().rev()) {
+        let product = field::mul(a, b);
+        mul_add.case(field::add(product, c), ffi::mul_add(a, b, c), (a, b, c));
+        sums.case(
+            field::add(product, field::mul(c, d)),
+            ffi::sum_of_products(a, b, c, d),
+            (a, b, c, d),
+        );
+    }
+    mul_add.done();
+    sums.done();
 }
 
 fn on_pairs<T: PartialEq + Debug>(
@@ -489,6 +516,34 @@ fn compare_eval(rounds: usize) {
         compare(&elements_64(&mut rng), count, rng.element());
     }
     eval.done();
+}
+
+fn compare_folds_in_place(rounds: usize) {
+    let mut rng = Rng::new(111);
+    let mut folds = Comparison::of("fold in place");
+    let mut compare = |poly: &[u32], beta: u32| {
+        // The second half keeps its numbers, and so does a polynomial of odd length.
+        let mut ours = poly.to_vec();
+        if poly.len() % 2 == 0 {
+            let folded = fold::fold_coefficients(poly, beta);
+            ours[..folded.len()].copy_from_slice(&folded);
+        }
+        let mut theirs = poly.to_vec();
+        ffi::fold_in_place(&mut theirs, beta);
+        folds.case(ours, theirs, (poly, beta));
+    };
+    for length in 0..=70 {
+        for beta in EDGES {
+            compare(&vec![u32::MAX; length], beta);
+            compare(&rng.elements(length), beta);
+        }
+    }
+    for _ in 0..rounds {
+        let length = rng.below(71);
+        let poly: Vec<u32> = (0..length).map(|_| any_number(&mut rng)).collect();
+        compare(&poly, any_number(&mut rng));
+    }
+    folds.done();
 }
 
 /// The writer, on inputs that fit and on inputs that do not.

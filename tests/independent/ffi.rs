@@ -46,6 +46,8 @@ mod exported {
         pub fn test_add(a: u32, b: u32) -> u32;
         pub fn test_sub(a: u32, b: u32) -> u32;
         pub fn test_mul(a: u32, b: u32) -> u32;
+        pub fn test_mul_add(a: u32, b: u32, c: u32) -> u32;
+        pub fn test_sum_of_products(a: u32, b: u32, c: u32, d: u32) -> u32;
         pub fn test_neg(a: u32) -> u32;
         pub fn test_pow(a: u32, e: u32) -> u32;
         pub fn test_inv(a: u32) -> u32;
@@ -95,6 +97,7 @@ mod exported {
         pub fn test_agrees(x: u32, beta: u32, a: u32, c: u32, v: u32) -> bool;
         pub fn test_next(x: u32, beta: u32, a: u32, c: u32) -> u32;
         pub fn test_eval(coefficients: *const Coefficients, count: usize, x: u32) -> u32;
+        pub fn test_fold_in_place(poly: *mut u32, len: usize, beta: u32);
 
         pub fn test_verdict(
             p: Params,
@@ -150,6 +153,8 @@ plain_wrappers! {
     add(a: u32, b: u32) -> u32 = test_add;
     sub(a: u32, b: u32) -> u32 = test_sub;
     mul(a: u32, b: u32) -> u32 = test_mul;
+    mul_add(a: u32, b: u32, c: u32) -> u32 = test_mul_add;
+    sum_of_products(a: u32, b: u32, c: u32, d: u32) -> u32 = test_sum_of_products;
     neg(a: u32) -> u32 = test_neg;
     pow(a: u32, e: u32) -> u32 = test_pow;
     inv(a: u32) -> u32 = test_inv;
@@ -227,6 +232,10 @@ pub fn draw(state: &Digest, params: Params, query: u8) -> u32 {
 
 pub fn eval(coefficients: &Coefficients, count: usize, x: u32) -> u32 {
     unsafe { exported::test_eval(coefficients, count, x) }
+}
+
+pub fn fold_in_place(poly: &mut [u32], beta: u32) {
+    unsafe { exported::test_fold_in_place(poly.as_mut_ptr(), poly.len(), beta) }
 }
 
 pub fn verdict(params: Params, context: &Digest, proof: &[u8]) -> Answer {

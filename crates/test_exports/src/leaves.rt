@@ -92,6 +92,20 @@ pub extern "C" fn test_mul(a: u32, b: u32) -> u32
 }
 
 #[no_mangle]
+pub extern "C" fn test_mul_add(a: u32, b: u32, c: u32) -> u32
+    ensures { λ r. ⌜ r ≡ addMod c (mulMod a b) ⌝ }
+{
+    field::mul_add(a, b, c)
+}
+
+#[no_mangle]
+pub extern "C" fn test_sum_of_products(a: u32, b: u32, c: u32, d: u32) -> u32
+    ensures { λ r. ⌜ r ≡ addMod (mulMod a b) (mulMod c d) ⌝ }
+{
+    field::sum_of_products(a, b, c, d)
+}
+
+#[no_mangle]
 pub extern "C" fn test_neg(a: u32) -> u32
     ensures { λ r. ⌜ r ≡ negMod a ⌝ }
 {

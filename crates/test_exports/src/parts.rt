@@ -10,6 +10,7 @@ ghost use Rattle.merkle.specs.Merkle as merkle;
 ghost use Rattle.transcript.specs.Transcript as transcript;
 ghost use Rattle.fold.specs.Poly as poly;
 ghost use Rattle.fold.specs.Fold as fold;
+ghost use Rattle.polynomial.specs.Polynomial as polynomial;
 ghost use Rattle.look_up.specs.LookUp.{lookUpSpan};
 use look_up::Span;
 use params::Params;
@@ -177,6 +178,13 @@ pub extern "C" fn test_eval(coefficients: &[u32; 64], count: usize, x: u32) -> u
 {
     let cs = *coefficients;
     fold::eval(cs, count, x)
+}
+
+#[no_mangle]
+pub extern "C" fn test_fold_in_place(poly: &mut [u32], beta: u32)
+    ensures { λ _. ⌜ now (poly .exit) ≡ polynomial.foldedInPlace beta (now (poly .entry)) ⌝ }
+{
+    polynomial::fold(poly, beta);
 }
 
 #[no_mangle]
