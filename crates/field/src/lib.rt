@@ -46,8 +46,8 @@ fn third(a: u64) -> u64
     eight + 65536 * eight
 }
 
-// How often p is in a, or once less: two thirds of the times that 2^31 is, since p is 3·2^30 + 1. That is too much by the 1 in p, but for an eighth of those
-// times, taken off in the last place.
+// How often p goes into a, or once less. 2^31 goes into it `times` times, and p, which is 3·2^30 + 1, about two thirds as often. The 1 in p makes two thirds
+// too many; an eighth of `times`, taken off in the last place, more than makes up for it.
 fn quotient(a: u64) -> u64
     ensures { λ r. ⌜ (p * r ≤ a) × (a < p * r + (p + p)) ⌝ }
 {
@@ -55,7 +55,7 @@ fn quotient(a: u64) -> u64
     (third(times) - times / 8) / 2147483648
 }
 
-// The remainder of any number, or p more. It divides by powers of two alone.
+// The remainder of any number, or p more.
 fn reduce_lazily(a: u64) -> u64
     ensures { λ r. ⌜ (r < p + p) × (r % p ≡ a % p) ⌝ }
 {
@@ -63,7 +63,7 @@ fn reduce_lazily(a: u64) -> u64
     a - q - UNIT * (q + 2 * q)
 }
 
-// The remainder of any number.
+// The remainder of any number, by shifts and small sums: no division but by powers of two.
 pub fn reduce(a: u64) -> u32
     ensures { λ r. ⌜ r ≡ a % p ⌝ }
 {
