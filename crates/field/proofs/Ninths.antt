@@ -18,7 +18,7 @@ tripled-plain d t h = omega arith
 abbrev pub ninefold : ℕ → ℕ
 ninefold t = tripled 24 (tripled 19327352830 t)
 
-pub first-small : (t : ℕ) → t < 18446744073709551616 → tripled 19327352830 t / 1073741824 ≤ 24
+first-small : (t : ℕ) → t < 18446744073709551616 → tripled 19327352830 t / 1073741824 ≤ 24
 first-small t h = omega arith
 
 ninefold-plain : (t : ℕ) → t < 18446744073709551616
@@ -44,7 +44,7 @@ ninth-of-ninth : mulMod 9 (mulMod 9 2942847963) ≡ 1
 unfolding mulMod
 ninth-of-ninth = refl
 
-pub ninth : {r : ℕ} (a : ℕ) → r ≡ mulMod (mulMod 9 a) (mulMod 9 2942847963) → r ≡ a % p
+ninth : {r : ℕ} (a : ℕ) → r ≡ mulMod (mulMod 9 a) (mulMod 9 2942847963) → r ≡ a % p
 ninth a e =
     e ∙ ap (λ (x : ℕ). mulMod x (mulMod 9 2942847963)) (mulMod-comm 9 a) ∙ mulMod-assoc a 9 (mulMod 9 2942847963)
     ∙ ap (mulMod a) ninth-of-ninth ∙ mulMod-comm a 1 ∙ mulMod-one a

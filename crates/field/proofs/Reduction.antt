@@ -1,30 +1,30 @@
--- The quotient by p that `reduce` takes is never too large, and too small by one at most. Two remainders by it may be added.
+-- The quotient by p that `reduce` takes is never too large, and too small by one at most; what is left when p is taken away so often has the same remainder.
 -- Assumes nothing.
 use mathlib.Core.Path.{_≡_, _∙_}
 use Prim.Native.Nat.{ℕ, zero, suc, _+_, _-_, _*_, _/_, _%_, _≤_, _<_}
 use native.Mathlib.Omega.{arith}
 use Rattle.field.specs.Modular.{p, addMod, mulMod}
 
--- units of 2^31, and how often p is in them: their third times 2^32, less an eighth, over 2^31
-abbrev pub units : ℕ → ℕ
-units a = a / 2147483648
+-- how often 2^31 goes into a, and from that how often p does: a third times 2^32, less an eighth, over 2^31
+abbrev pub times : ℕ → ℕ
+times a = a / 2147483648
 
-abbrev pub count : ℕ → ℕ
-count h = (1431655765 * h - h / 8) / 2147483648
+abbrev pub estimate : ℕ → ℕ
+estimate h = (1431655765 * h - h / 8) / 2147483648
 
--- two thirds of the units would be too many
-below-two-thirds : (h : ℕ) → 3 * count (suc h) < 2 * suc h
+-- two thirds would be too many
+below-two-thirds : (h : ℕ) → 3 * estimate (suc h) < 2 * suc h
 below-two-thirds h = omega arith
 
-not-above : (h : ℕ) → p * count h ≤ 2147483648 * h
+not-above : (h : ℕ) → p * estimate h ≤ 2147483648 * h
 not-above zero = omega arith
 not-above (suc h) = omega (arith, below-two-thirds h)
 
-not-below : (h : ℕ) → h < 8589934592 → 2147483648 * h + 2147483648 ≤ p * count h + (p + p)
+not-below : (h : ℕ) → h < 8589934592 → 2147483648 * h + 2147483648 ≤ p * estimate h + (p + p)
 not-below h small = omega arith
 
-pub counted : (a : ℕ) → a < 18446744073709551616 → (p * count (units a) ≤ a) × (a < p * count (units a) + (p + p))
-counted a small = (omega (arith, not-above (units a)), omega (arith, not-below (units a) (omega arith)))
+pub counted : (a : ℕ) → a < 18446744073709551616 → (p * estimate (times a) ≤ a) × (a < p * estimate (times a) + (p + p))
+counted a small = (omega (arith, not-above (times a)), omega (arith, not-below (times a) (omega arith)))
 
 -- a less p as often as q says
 pub taken-away : (a q : ℕ) → p * q ≤ a → a < p * q + (p + p)

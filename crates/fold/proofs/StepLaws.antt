@@ -1,8 +1,8 @@
 -- The arithmetic of a step of Horner's rule on a value that is not reduced, and of the point's third.
 -- Assumes nothing.
-use Prim.Native.Nat.{ℕ, _+_, _-_, _*_, _/_, _%_, _≤_, _<_, _^_}
+use Prim.Native.Nat.{ℕ, _+_, _-_, _*_, _/_, _%_, _≤_, _<_}
 use mathlib.Core.Path.{_≡_, refl, sym, ap, _∙_}
-use native.Mathlib.Nat.{mod-eq-of-lt, div-add-mod}
+use native.Mathlib.Nat.{mod-eq-of-lt}
 use native.Mathlib.Omega.{arith}
 use Rattle.field.specs.Modular.{p, addMod, mulMod}
 use Rattle.field.proofs.Remainder.{product-fits}
@@ -39,7 +39,7 @@ low-fits a v k = product-fits 17 32 (omega arith) k
 pub halves-small : (a b v : ℕ) → v < 17179869184 → a < 4294967296 → b < 4294967296 → halves a b v < 1125899906842624
 halves-small a b v h k l = omega (arith, high-fits b v h l, low-fits a v k)
 
--- 3·2^30 is p − 1
+-- one fold of three times the product, since 3·2^30 is p − 1, as an equation of plain numbers
 module _ (a b c v j high low : ℕ) where
   shifted-high : b + p * j ≡ 131072 * a → high * b + p * (high * j) ≡ 131072 * (high * a)
   shifted-high e = omega (arith, ap (λ (u : ℕ). high * u) e)
