@@ -255,12 +255,12 @@ def without_contracts(text):
 
 
 def check_divisions():
-    """Every divisor in these crates is a numeral, or a constant of the file, that is a power of two."""
+    """Every divisor in these crates is a numeral, or a constant of the file, that is a power of two; a divisor in brackets is none."""
     for crate in BY_POWERS_OF_TWO:
         for path, _, _ in source(crate):
             code = " ".join(without_contracts(path.read_text()))
             constants = dict(re.findall(r"const (\w+): \w+ = (\d+);", code))
-            for divisor in re.findall(r"[/%]=? *([\w:]+)", code):
+            for divisor in re.findall(r"[/%]=? *([\w:]+|\S)", code):
                 number = constants.get(divisor, divisor)
                 if not number.isdecimal() or int(number).bit_count() != 1:
                     fault(path.relative_to(ROOT), f"divides by {divisor}, not by a power of two")

@@ -29,6 +29,7 @@ CHANGES = [
     ("crates/fold/must-fail/scale_adds_one.edit", "old: field::add(x, x)\nnew: field::add(x, 1)", "old: // What the scale times\nnew: // What the scale", "changes neither code nor a statement"),
     ("crates/field/src/lib.rt", "    correct(reduce_lazily(a))\n", "    (a % P) as u32\n", "field/src/lib.rt: divides by P, not by a power of two"),
     ("crates/fold/src/lib.rt", "product % UNIT", "product % Felt::MODULUS", "fold/src/lib.rt: divides by Felt::MODULUS, not by a power of two"),
+    ("crates/field/src/lib.rt", "    correct(reduce_lazily(a))\n", "    (a % (P)) as u32\n", "field/src/lib.rt: divides by (, not by a power of two"),
     ("docs/PROMISES.md", "FoldLaws: fold-law`", "FoldLaws: fold-low`", "fold/FoldLaws has no fold-low"),
 ]
 
