@@ -116,7 +116,7 @@ fn compare_field(rounds: usize) {
     let mut edges = EDGES.to_vec();
     edges.extend((0..=field::LARGEST_SUBGROUP).map(field::subgroup_generator));
     edges.extend(
-        [17, 30, 31]
+        [16, 17, 30, 31]
             .map(|bits| 1 << bits)
             .iter()
             .flat_map(|&x: &u32| [x - 1, x, x + 1]),
@@ -187,19 +187,25 @@ fn compare_field(rounds: usize) {
     on_pairs("pow", &pairs, field::pow, ffi::pow);
     on_pairs("inv", &pairs, |a, _| field::inv(a), |a, _| ffi::inv(a));
 
+    // Numbers next to a multiple of p or of a power of two, 2^64 included.
+    let mut reduce = Comparison::of("reduce");
+    for round in 0..rounds {
+        let word = u64::from(rng.word()) << 32 | u64::from(rng.word());
+        let step = [1, u64::from(P), 1 << 30, 1 << 32, 1 << 33][round % 5];
+        let multiple = if round < 5 { 0 } else { word - word % step };
+        for number in [multiple.wrapping_sub(1), multiple, multiple.wrapping_add(1)] {
+            let remainder = (number % u64::from(P)) as u32;
+            reduce.case(remainder, ffi::reduce(number), number);
+        }
+    }
+    reduce.done();
+
     let mut mul_add = Comparison::of("mul_add");
-    let mut sums = Comparison::of("sum_of_products");
-    for (&(a, b), &(c, d)) in pairs.iter().zip(pairs.iter().rev()) {
-        let product = field::mul(a, b);
-        mul_add.case(field::add(product, c), ffi::mul_add(a, b, c), (a, b, c));
-        sums.case(
-            field::add(product, field::mul(c, d)),
-            ffi::sum_of_products(a, b, c, d),
-            (a, b, c, d),
-        );
+    for (&(a, b), &(c, _)) in pairs.iter().zip(pairs.iter().rev()) {
+        let sum = field::add(field::mul(a, b), c);
+        mul_add.case(sum, ffi::mul_add(a, b, c), (a, b, c));
     }
     mul_add.done();
-    sums.done();
 }
 
 fn on_pairs<T: PartialEq + Debug>(

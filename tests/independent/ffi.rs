@@ -43,11 +43,11 @@ mod exported {
         pub fn test_power(a: u32, e: u32) -> FieldAnswer;
         pub fn test_inverse(a: u32) -> FieldAnswer;
 
+        pub fn test_reduce(a: u64) -> u32;
         pub fn test_add(a: u32, b: u32) -> u32;
         pub fn test_sub(a: u32, b: u32) -> u32;
         pub fn test_mul(a: u32, b: u32) -> u32;
         pub fn test_mul_add(a: u32, b: u32, c: u32) -> u32;
-        pub fn test_sum_of_products(a: u32, b: u32, c: u32, d: u32) -> u32;
         pub fn test_neg(a: u32) -> u32;
         pub fn test_pow(a: u32, e: u32) -> u32;
         pub fn test_inv(a: u32) -> u32;
@@ -150,11 +150,11 @@ plain_wrappers! {
     power(a: u32, e: u32) -> FieldAnswer = test_power;
     inverse(a: u32) -> FieldAnswer = test_inverse;
 
+    reduce(a: u64) -> u32 = test_reduce;
     add(a: u32, b: u32) -> u32 = test_add;
     sub(a: u32, b: u32) -> u32 = test_sub;
     mul(a: u32, b: u32) -> u32 = test_mul;
     mul_add(a: u32, b: u32, c: u32) -> u32 = test_mul_add;
-    sum_of_products(a: u32, b: u32, c: u32, d: u32) -> u32 = test_sum_of_products;
     neg(a: u32) -> u32 = test_neg;
     pow(a: u32, e: u32) -> u32 = test_pow;
     inv(a: u32) -> u32 = test_inv;

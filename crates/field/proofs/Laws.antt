@@ -182,19 +182,21 @@ pub powMod-half : (a e : ℕ) → e % 2 ≡ 0 → powMod (mulMod a a) (e / 2) �
 powMod-half a e h =
     ap (λ (x : ℕ). powMod x (e / 2)) (sym (powMod-two a)) ∙ sym (powMod-mul a 2 (e / 2)) ∙ ap (powMod a) (omega arith)
 
--- the two rules as they are walked, with m multiplied so far
-pub power-done : {m : ℕ} (a : ℕ) {e : ℕ} → m < p → e ≡ 0 → m ≡ mulMod m (powMod a e)
-power-done {m} a h z = sym (ap (λ (x : ℕ). mulMod m (powMod a x)) z ∙ ap (mulMod m) (powMod-zero a) ∙ mulMod-comm m 1 ∙ mulMod-one m ∙ mod-eq-of-lt h)
+-- the two rules as they are walked, with m multiplied so far; what a product is passed on as need not be below p
+pub power-done : (m a : ℕ) {e : ℕ} → e ≡ 0 → m % p ≡ mulMod m (powMod a e)
+power-done m a z = sym (ap (λ (x : ℕ). mulMod m (powMod a x)) z ∙ ap (mulMod m) (powMod-zero a) ∙ mulMod-comm m 1 ∙ mulMod-one m)
 
 pub power-from-one : (a e : ℕ) → mulMod 1 (powMod a e) ≡ powMod a e
 power-from-one a e = mulMod-one (powMod a e) ∙ mod-eq-of-lt (powMod-lt a e)
 
-pub power-once : {r s : ℕ} (m a e : ℕ) → e % 2 ≡ 1 → s ≡ mulMod m a → r ≡ mulMod s (powMod a (e - 1)) → r ≡ mulMod m (powMod a e)
-power-once m a e h f g =
-    g ∙ ap (λ (x : ℕ). mulMod x (powMod a (e - 1))) f ∙ mulMod-assoc m a (powMod a (e - 1)) ∙ ap (mulMod m) (powMod-pred a e (omega arith))
+pub power-once : {r : ℕ} (m a e s : ℕ) → e % 2 ≡ 1 → s % p ≡ mulMod m a → r ≡ mulMod s (powMod a (e - 1)) → r ≡ mulMod m (powMod a e)
+power-once m a e s h f g =
+    g ∙ sym (mulMod-reduce s (powMod a (e - 1))) ∙ ap (λ (x : ℕ). mulMod x (powMod a (e - 1))) f ∙ mulMod-assoc m a (powMod a (e - 1))
+    ∙ ap (mulMod m) (powMod-pred a e (omega arith))
 
-pub power-halved : {r s : ℕ} (m a e : ℕ) → e % 2 ≡ 0 → s ≡ mulMod a a → r ≡ mulMod m (powMod s (e / 2)) → r ≡ mulMod m (powMod a e)
-power-halved m a e h f g = g ∙ ap (λ (x : ℕ). mulMod m (powMod x (e / 2))) f ∙ ap (mulMod m) (powMod-half a e h)
+pub power-halved : {r : ℕ} (m a e s : ℕ) → e % 2 ≡ 0 → s % p ≡ mulMod a a → r ≡ mulMod m (powMod s (e / 2)) → r ≡ mulMod m (powMod a e)
+power-halved m a e s h f g =
+    g ∙ ap (mulMod m) (sym (powMod-reduce s (e / 2)) ∙ ap (λ (x : ℕ). powMod x (e / 2)) f ∙ powMod-half a e h)
 
 -- units: numbers u with a v such that u·v = 1
 

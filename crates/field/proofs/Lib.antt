@@ -10,4 +10,3 @@ pub mod Inverse
 pub mod Table
 pub mod Subgroup
 pub mod Ring
-mod Ninths

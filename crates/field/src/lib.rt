@@ -1,7 +1,7 @@
 // The prime field p = 3·2^30 + 1 (document 01, "The field"). The functions on u32 are total and reduce any argument; the methods of `Felt`
 // refuse an argument that is not below p.
 ghost use mathlib.Core.Path.{_≡_};
-ghost use Prim.Native.Nat.{_+_, _*_, _%_, _≤_, _<_};
+ghost use Prim.Native.Nat.{_+_, _*_, _/_, _%_, _<_};
 ghost use Rattle.field.specs.Modular.{p, addMod, subMod, mulMod, negMod, powMod, invMod, generator, subgroupGenerator};
 ghost use Rattle.field.specs.Checked.{refusal, success, checked, sumAnswer, differenceAnswer, productAnswer, negationAnswer, powerAnswer, inverseAnswer};
 use answer::Answer;
@@ -19,48 +19,51 @@ pub struct FieldAnswer {
     pub value: Felt,
 }
 
-const P: u64 = 3221225473;
+// 2^32, and 2^30: p is three of these units and 1.
+const WORD: u64 = 4294967296;
 
-const TWICE_P: u64 = 6442450946;
+const UNIT: u32 = 1073741824;
 
-// 2^30: p is three of these units and 1.
-const UNIT: u64 = 1073741824;
-
-// The last correction: the remainder of a number below 2p.
-fn correct(a: u64) -> u32
-    requires { ⌜ a < p + p ⌝ }
+// The remainder of a 32-bit number, which is below 2p.
+fn correct(a: u32) -> u32
     ensures { λ r. ⌜ r ≡ a % p ⌝ }
 {
-    if a < P { a as u32 } else { (a - P) as u32 }
+    if a < Felt::MODULUS {
+        a
+    } else {
+        a - Felt::MODULUS
+    }
 }
 
-// A third of a number, times 2^32 and rounded down: its quarter, its sixteenth and so on to the sixteenth such part. Four sums make the sixteen, each of what
-// was summed so far and the same in further places.
-fn third(a: u64) -> u64
-    requires { ⌜ a < 8589934592 ⌝ }
-    ensures { λ r. ⌜ r ≡ 1431655765 * a ⌝ }
+// A third of 2^33 without its quarter, `times` over. A third is a quarter, a sixteenth, a sixty-fourth and so on: from the sixteenth on, fifteen parts, 2^29
+// down to 2. Four sums make them, each of what was summed so far and the same in further places. Three are taken off for the 1 in p.
+fn rest_of_third(times: u64) -> u64
+    requires { ⌜ times < 2147483648 ⌝ }
+    ensures { λ r. ⌜ r ≡ 715827879 * times ⌝ }
 {
-    let two = a + 4 * a;
+    let two = times + 4 * times;
     let four = two + 16 * two;
     let eight = four + 256 * four;
-    eight + 65536 * eight
+    let fifteen = eight + 16384 * (eight - times);
+    2 * fifteen - 3 * times
 }
 
-// How often p goes into a, or once less. 2^31 goes into it `times` times, and p, which is 3·2^30 + 1, about two thirds as often. The 1 in p makes two thirds
-// too many; an eighth of `times`, taken off in the last place, more than makes up for it.
-fn quotient(a: u64) -> u64
-    ensures { λ r. ⌜ (p * r ≤ a) × (a < p * r + (p + p)) ⌝ }
+// How often p goes into a, or once less, modulo 2^32. 2^32 is p and a third of p, so that is how often 2^32 goes into a and a third of a. The third's quarter
+// is taken of a itself, the rest of it of how often 2^33 goes into a, which is rounded down.
+fn quotient(a: u64) -> u32
+    ensures { λ r. ⌜ r ≡ (a + (a / 4 + 715827879 * (a / 8589934592))) / 4294967296 % 4294967296 ⌝ }
 {
-    let times = a / 2147483648;
-    (third(times) - times / 8) / 2147483648
+    (std::num::wrapping_add_u64(a, a / 4 + rest_of_third(a / 8589934592)) / WORD) as u32
 }
 
-// The remainder of any number, or p more.
-fn reduce_lazily(a: u64) -> u64
-    ensures { λ r. ⌜ (r < p + p) × (r % p ≡ a % p) ⌝ }
+// The remainder of any number, or p more: what is left after p has been taken away as often as the quotient says. It fits in 32 bits, so counting modulo 2^32
+// is enough, and there taking three units away is adding one.
+fn reduce_lazily(a: u64) -> u32
+    ensures { λ r. ⌜ r % p ≡ a % p ⌝ }
 {
     let q = quotient(a);
-    a - q - UNIT * (q + 2 * q)
+    let less = std::num::wrapping_sub_u32((a % WORD) as u32, q);
+    std::num::wrapping_add_u32(less, UNIT * (q % 4))
 }
 
 // The remainder of any number, by shifts and small sums: no division but by powers of two.
@@ -73,13 +76,22 @@ pub fn reduce(a: u64) -> u32
 pub fn add(a: u32, b: u32) -> u32
     ensures { λ r. ⌜ r ≡ addMod a b ⌝ }
 {
-    correct(correct(a as u64) as u64 + correct(b as u64) as u64)
+    let x = correct(a);
+    let y = correct(b);
+    let room = Felt::MODULUS - y;
+    if x < room { x + y } else { x - room }
 }
 
 pub fn sub(a: u32, b: u32) -> u32
     ensures { λ r. ⌜ r ≡ subMod a b ⌝ }
 {
-    correct(correct(a as u64) as u64 + (Felt::MODULUS - correct(b as u64)) as u64)
+    let x = correct(a);
+    let y = correct(b);
+    if y <= x {
+        x - y
+    } else {
+        x + (Felt::MODULUS - y)
+    }
 }
 
 pub fn mul(a: u32, b: u32) -> u32
@@ -95,54 +107,38 @@ pub fn mul_add(a: u32, b: u32, c: u32) -> u32
     reduce(a as u64 * b as u64 + c as u64)
 }
 
-// The sum of two products, reduced together.
-pub fn sum_of_products(a: u32, b: u32, c: u32, d: u32) -> u32
-    ensures { λ r. ⌜ r ≡ addMod (mulMod a b) (mulMod c d) ⌝ }
+// A product, not reduced to the end: what products that follow each other pass on.
+fn mul_lazily(a: u32, b: u32) -> u32
+    ensures { λ r. ⌜ r % p ≡ mulMod a b ⌝ }
 {
-    let sum = reduce_lazily(a as u64 * b as u64) + reduce_lazily(c as u64 * d as u64);
-    if sum < TWICE_P {
-        correct(sum)
-    } else {
-        correct(sum - TWICE_P)
-    }
+    reduce_lazily(a as u64 * b as u64)
 }
 
 pub fn neg(a: u32) -> u32
     ensures { λ r. ⌜ r ≡ negMod a ⌝ }
 {
-    correct((Felt::MODULUS - correct(a as u64)) as u64)
+    sub(0, a)
 }
 
-// The product of ninths, not reduced: of a ninth of one number and a ninth of another, a ninth of their product. Three times a number is three times its last
-// 30 bits less the rest, since 3·2^30 is −1; two such folds bring nine times a product below 2^32. The 6p that is added, and the 8 that moves from the first
-// fold to the second, where it is 24, keep both differences above 0. 19327352830 is 6p − 8.
-fn mul_ninths(a: u32, b: u32) -> u32
-    ensures { λ r. ⌜ mulMod 9 r ≡ mulMod (mulMod 9 a) (mulMod 9 b) ⌝ }
-{
-    let product = a as u64 * b as u64;
-    let three = 3 * (product % UNIT) + (19327352830 - product / UNIT);
-    (3 * (three % UNIT) + (24 - three / UNIT)) as u32
-}
-
-// Powers by two rules that call each other, on ninths. An odd exponent multiplies once and passes the rest to the even rule, which halves the exponent,
-// squares the base and passes back: to the odd rule where the half is odd, else to itself. The exponent falls at each call. What was multiplied so far goes
-// along, so that every call is the last thing its caller does.
+// Powers by two rules that call each other. An odd exponent multiplies once and passes the rest to the even rule, which halves the exponent, squares the
+// base and passes back: to the odd rule where the half is odd, else to itself. The exponent falls at each call. What was multiplied so far goes along, so
+// that every call is the last thing its caller does. No product is reduced to the end.
 fn power_odd(product: u32, a: u32, e: u32) -> u32
     requires { ⌜ e % 2 ≡ 1 ⌝ }
-    ensures { λ r. ⌜ mulMod 9 r ≡ mulMod (mulMod 9 product) (powMod (mulMod 9 a) e) ⌝ }
+    ensures { λ r. ⌜ r % p ≡ mulMod product (powMod a e) ⌝ }
 {
-    power_even(mul_ninths(product, a), a, e - 1)
+    power_even(mul_lazily(product, a), a, e - 1)
 }
 
 fn power_even(product: u32, a: u32, e: u32) -> u32
     requires { ⌜ e % 2 ≡ 0 ⌝ }
-    ensures { λ r. ⌜ mulMod 9 r ≡ mulMod (mulMod 9 product) (powMod (mulMod 9 a) e) ⌝ }
+    ensures { λ r. ⌜ r % p ≡ mulMod product (powMod a e) ⌝ }
 {
     if e == 0 {
         return product;
     }
     let half = e / 2;
-    let square = mul_ninths(a, a);
+    let square = mul_lazily(a, a);
     if half % 2 == 1 {
         power_odd(product, square, half)
     } else {
@@ -150,22 +146,14 @@ fn power_even(product: u32, a: u32, e: u32) -> u32
     }
 }
 
-// A ninth of any power, from a ninth of 1 and a ninth of the base: 715827883 is 1/9, 2942847963 is 1/81.
-fn power_ninth(a: u32, e: u32) -> u32
-    ensures { λ r. ⌜ mulMod 9 r ≡ powMod a e ⌝ }
-{
-    let ninth = mul_ninths(a, 2942847963);
-    if e % 2 == 1 {
-        power_odd(715827883, ninth, e)
-    } else {
-        power_even(715827883, ninth, e)
-    }
-}
-
 pub fn pow(a: u32, e: u32) -> u32
     ensures { λ r. ⌜ r ≡ powMod a e ⌝ }
 {
-    mul(9, power_ninth(a, e))
+    if e % 2 == 1 {
+        correct(power_odd(1, a, e))
+    } else {
+        correct(power_even(1, a, e))
+    }
 }
 
 // The inverse of any number that p does not divide, and 0 of a multiple of p.

@@ -1,5 +1,4 @@
 -- Laws of the fold.
 pub mod PolyLaws
-mod StepLaws
 pub mod FoldLaws
 pub mod FoldCheck

@@ -1,5 +1,6 @@
 // The hash and the field.
 ghost use mathlib.Core.Path.{_≡_};
+ghost use Prim.Native.Nat.{_%_};
 ghost use Rattle.sha256.specs.Hash.{hashed};
 ghost use Rattle.field.specs.Modular.{p, addMod, subMod, mulMod, negMod, powMod, invMod, generator, subgroupGenerator};
 ghost use Rattle.field.specs.Checked.{sumAnswer, differenceAnswer, productAnswer, negationAnswer, powerAnswer, inverseAnswer};
@@ -71,6 +72,13 @@ pub extern "C" fn test_inverse(a: u32) -> FieldAnswer
 }
 
 #[no_mangle]
+pub extern "C" fn test_reduce(a: u64) -> u32
+    ensures { λ r. ⌜ r ≡ a % p ⌝ }
+{
+    field::reduce(a)
+}
+
+#[no_mangle]
 pub extern "C" fn test_add(a: u32, b: u32) -> u32
     ensures { λ r. ⌜ r ≡ addMod a b ⌝ }
 {
@@ -96,13 +104,6 @@ pub extern "C" fn test_mul_add(a: u32, b: u32, c: u32) -> u32
     ensures { λ r. ⌜ r ≡ addMod c (mulMod a b) ⌝ }
 {
     field::mul_add(a, b, c)
-}
-
-#[no_mangle]
-pub extern "C" fn test_sum_of_products(a: u32, b: u32, c: u32, d: u32) -> u32
-    ensures { λ r. ⌜ r ≡ addMod (mulMod a b) (mulMod c d) ⌝ }
-{
-    field::sum_of_products(a, b, c, d)
 }
 
 #[no_mangle]

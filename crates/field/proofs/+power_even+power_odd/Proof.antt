@@ -3,8 +3,7 @@
 use Prim.Native.Nat.{ℕ, _<_}
 use native.Mathlib.Omega.{arith}
 use borrow.Author.Needs.{needs}
-use Rattle.field.specs.Modular.{mulMod}
-use Rattle.field.proofs.Laws.{mulMod-lt, power-done, power-once, power-halved}
+use Rattle.field.proofs.Laws.{power-done, power-once, power-halved}
 use borrow.Fn.Kinds.{In}
 use borrow.Fn.PlainCycle.{Measures, is, falls, and}
 use Rattle.field.proofs.power_even.Reads as power-even
@@ -13,7 +12,7 @@ use Rattle.field.proofs.+power_even+power_odd.Lts-power_even as power-e
 use Rattle.field.proofs.power_odd.Reads as power-odd
 use Rattle.field.proofs.power_odd.Kinds as power-odd-kinds
 use Rattle.field.proofs.+power_even+power_odd.Lts-power_odd as power-odd-lts
-use Rattle.field.proofs.mul_ninths.Reads as mul-ninths-reads
+use Rattle.field.proofs.mul_lazily.Reads as mul-lazily-reads
 use Rattle.field.proofs.+power_even+power_odd.{statement}
 use Rattle.field.proofs.+power_even+power_odd.Tie.{close}
 
@@ -39,28 +38,28 @@ power-odd-below t =
     and 0 power-odd-kinds.ps (falls 0 power-odd-kinds.ps _<_ μ-power-odd t) power-odd.Pre
 
 power-even-returns : (t : ℕ) → power-even-lts.Need-returns (
-  mul-ninths-reads.Asked,
-  mul-ninths-reads.Learnt,
+  mul-lazily-reads.Asked,
+  mul-lazily-reads.Learnt,
   power-odd-below t,
   power-odd.Post,
   power-even-below t,
   power-even.Post,
 ) (power-even-at t) power-even.Post
-power-even-returns t c = power-done _ (mulMod-lt 9 (c .before .args .product)) (c .if1 .taken)
+power-even-returns t c = power-done (c .before .args .product) _ (c .if1 .taken)
 
-power-even-mul-ninths-requires : (t : ℕ) → power-even-lts.Need-mul-ninths-requires (
-  mul-ninths-reads.Asked,
-  mul-ninths-reads.Learnt,
+power-even-mul-lazily-requires : (t : ℕ) → power-even-lts.Need-mul-lazily-requires (
+  mul-lazily-reads.Asked,
+  mul-lazily-reads.Learnt,
   power-odd-below t,
   power-odd.Post,
   power-even-below t,
   power-even.Post,
 ) (power-even-at t) power-even.Post
-power-even-mul-ninths-requires t c κs = search needs
+power-even-mul-lazily-requires t c κs = search needs
 
 power-even-power-odd-requires : (t : ℕ) → power-even-lts.Need-power-odd-requires (
-  mul-ninths-reads.Asked,
-  mul-ninths-reads.Learnt,
+  mul-lazily-reads.Asked,
+  mul-lazily-reads.Learnt,
   power-odd-below t,
   power-odd.Post,
   power-even-below t,
@@ -69,8 +68,8 @@ power-even-power-odd-requires : (t : ℕ) → power-even-lts.Need-power-odd-requ
 power-even-power-odd-requires t c κs = omega arith
 
 power-even-power-even-requires : (t : ℕ) → power-even-lts.Need-power-even-requires (
-  mul-ninths-reads.Asked,
-  mul-ninths-reads.Learnt,
+  mul-lazily-reads.Asked,
+  mul-lazily-reads.Learnt,
   power-odd-below t,
   power-odd.Post,
   power-even-below t,
@@ -79,8 +78,8 @@ power-even-power-even-requires : (t : ℕ) → power-even-lts.Need-power-even-re
 power-even-power-even-requires t c κs = omega arith
 
 power-even-returns-2 : (t : ℕ) → power-even-lts.Need-returns-2 (
-  mul-ninths-reads.Asked,
-  mul-ninths-reads.Learnt,
+  mul-lazily-reads.Asked,
+  mul-lazily-reads.Learnt,
   power-odd-below t,
   power-odd.Post,
   power-even-below t,
@@ -88,11 +87,11 @@ power-even-returns-2 : (t : ℕ) → power-even-lts.Need-returns-2 (
 ) (power-even-at t) power-even.Post
 power-even-returns-2 t c =
     let s = c .before .before .before .before in
-    power-halved (mulMod 9 (s .args .product)) (mulMod 9 (s .args .a)) (s .args .e) (s .pre .1) (c .before .before .mul-ninths .ensures) (c .power-odd .ensures)
+    power-halved (s .args .product) (s .args .a) (s .args .e) _ (s .pre .1) (c .before .before .mul-lazily .ensures) (c .power-odd .ensures)
 
 power-even-returns-3 : (t : ℕ) → power-even-lts.Need-returns-3 (
-  mul-ninths-reads.Asked,
-  mul-ninths-reads.Learnt,
+  mul-lazily-reads.Asked,
+  mul-lazily-reads.Learnt,
   power-odd-below t,
   power-odd.Post,
   power-even-below t,
@@ -100,46 +99,46 @@ power-even-returns-3 : (t : ℕ) → power-even-lts.Need-returns-3 (
 ) (power-even-at t) power-even.Post
 power-even-returns-3 t c =
     let s = c .before .before .before .before in
-    power-halved (mulMod 9 (s .args .product)) (mulMod 9 (s .args .a)) (s .args .e) (s .pre .1) (c .before .before .mul-ninths .ensures) (c .power-even .ensures)
+    power-halved (s .args .product) (s .args .a) (s .args .e) _ (s .pre .1) (c .before .before .mul-lazily .ensures) (c .power-even .ensures)
 
-power-odd-mul-ninths-requires : (t : ℕ) → power-odd-lts.Need-mul-ninths-requires (
-  mul-ninths-reads.Asked,
-  mul-ninths-reads.Learnt,
+power-odd-mul-lazily-requires : (t : ℕ) → power-odd-lts.Need-mul-lazily-requires (
+  mul-lazily-reads.Asked,
+  mul-lazily-reads.Learnt,
   power-even-below t,
   power-even.Post,
 ) (power-odd-at t) power-odd.Post
-power-odd-mul-ninths-requires t c κs = search needs
+power-odd-mul-lazily-requires t c κs = search needs
 
 power-odd-sub-power-even : (t : ℕ) → power-odd-lts.Need-sub-power-even (
-  mul-ninths-reads.Asked,
-  mul-ninths-reads.Learnt,
+  mul-lazily-reads.Asked,
+  mul-lazily-reads.Learnt,
   power-even-below t,
   power-even.Post,
 ) (power-odd-at t) power-odd.Post
 power-odd-sub-power-even t c = omega arith
 
 power-odd-power-even-requires : (t : ℕ) → power-odd-lts.Need-power-even-requires (
-  mul-ninths-reads.Asked,
-  mul-ninths-reads.Learnt,
+  mul-lazily-reads.Asked,
+  mul-lazily-reads.Learnt,
   power-even-below t,
   power-even.Post,
 ) (power-odd-at t) power-odd.Post
 power-odd-power-even-requires t c κs = (omega arith, omega arith)
 
 power-odd-returns : (t : ℕ) → power-odd-lts.Need-returns (
-  mul-ninths-reads.Asked,
-  mul-ninths-reads.Learnt,
+  mul-lazily-reads.Asked,
+  mul-lazily-reads.Learnt,
   power-even-below t,
   power-even.Post,
 ) (power-odd-at t) power-odd.Post
 power-odd-returns t c =
     let s = c .before .before in
-    power-once (mulMod 9 (s .args .product)) (mulMod 9 (s .args .a)) (s .args .e) (s .pre .1) (c .before .mul-ninths .ensures) (c .power-even .ensures)
+    power-once (s .args .product) (s .args .a) (s .args .e) _ (s .pre .1) (c .before .mul-lazily .ensures) (c .power-even .ensures)
 
 pub +power-even+power-odd-spec : {M : Type 1} → statement M
 +power-even+power-odd-spec = close μ-power-even μ-power-odd (λ t. power-even-lts.spec (
-  mul-ninths-reads.Asked,
-  mul-ninths-reads.Learnt,
+  mul-lazily-reads.Asked,
+  mul-lazily-reads.Learnt,
   power-odd-below t,
   power-odd.Post,
   power-even-below t,
@@ -148,16 +147,16 @@ pub +power-even+power-odd-spec : {M : Type 1} → statement M
     (power-even-at t)
     power-even.Post
     (power-even-returns t)
-    (power-even-mul-ninths-requires t)
+    (power-even-mul-lazily-requires t)
     (power-even-power-odd-requires t)
     (power-even-power-even-requires t)
     (power-even-returns-2 t)
     (power-even-returns-3 t))
     λ t. power-odd-lts.spec
-    (mul-ninths-reads.Asked, mul-ninths-reads.Learnt, power-even-below t, power-even.Post)
+    (mul-lazily-reads.Asked, mul-lazily-reads.Learnt, power-even-below t, power-even.Post)
     (power-odd-at t)
     power-odd.Post
-    (power-odd-mul-ninths-requires t)
+    (power-odd-mul-lazily-requires t)
     (power-odd-sub-power-even t)
     (power-odd-power-even-requires t)
     (power-odd-returns t)

@@ -1,32 +1,16 @@
--- `reduce_lazily` meets its contract: it takes p away as often as the quotient says.
+-- `reduce_lazily` meets its contract: modulo 2^32 it takes p away as often as the quotient says.
 -- Assumes nothing.
+use mathlib.Core.Path.{_≡_, sym, ap, _∙_}
 use borrow.Author.Needs.{needs}
 use Rattle.field.proofs.Reduction.{taken-away}
 use Rattle.field.proofs.reduce_lazily.Statement.{statement}
 use Rattle.field.proofs.reduce_lazily.Tie as tie
 
-quotient-requires : tie.Need-quotient-requires
-quotient-requires c κs = search needs
-
-sub-result : tie.Need-sub-result
-sub-result c = search needs
-
-mul-result : tie.Need-mul-result
-mul-result c = search needs
-
-add-result : tie.Need-add-result
-add-result c = search needs
-
-mul-result-2 : tie.Need-mul-result-2
-mul-result-2 c = search needs
-
-sub-result-2 : tie.Need-sub-result-2
-sub-result-2 c = search needs
-
 returns : tie.Need-returns
-returns c = taken-away (c .before .args .a) (c .quotient .result) (c .quotient .ensures .0) (c .quotient .ensures .1)
+returns c =
+    let less = c .before .wrapping-sub-u32 in
+    taken-away (c .before .before .before .args .a) _ (less .result) _ (search needs) (c .before .before .quotient .ensures) (less .ensures) (c .wrapping-add-u32 .ensures)
 
 pub reduce-lazily-spec : {M : Type 1} → statement M
 reduce-lazily-spec =
-    tie.close
-    (tie.spec quotient-requires sub-result mul-result add-result mul-result-2 sub-result-2 returns)
+    tie.close (tie.spec (λ c κs. search needs) (λ c. search needs) (λ c κs. search needs) (λ c. search needs) (λ c κs. search needs) returns)
