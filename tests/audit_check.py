@@ -27,9 +27,9 @@ CHANGES = [
     ("crates/fold/must-fail/scale_adds_one.edit", "old: field::add(x, x)\nnew: field::add(x, 1)", "old: ⌜ r ≡ spec.scale x ⌝\nnew: ⌜ r ≡ x ⌝", "fold::scale: has 1 wrong programs"),
     ("crates/fold/must-fail/scale_adds_one.edit", "file: ", "file: specs/Fold.antt\nold: -- 2·x\nnew: -- x·2\nfile: ", "fold::scale: has 1 wrong programs"),
     ("crates/fold/must-fail/scale_adds_one.edit", "old: field::add(x, x)\nnew: field::add(x, 1)", "old: // What the scale times\nnew: // What the scale", "changes neither code nor a statement"),
-    ("crates/field/src/lib.rt", "    correct(reduce_lazily(a))\n", "    (a % P) as u32\n", "field/src/lib.rt: divides by P, not by a power of two"),
-    ("crates/fold/src/lib.rt", "product % UNIT", "product % Felt::MODULUS", "fold/src/lib.rt: divides by Felt::MODULUS, not by a power of two"),
-    ("crates/field/src/lib.rt", "    correct(reduce_lazily(a))\n", "    (a % (P)) as u32\n", "field/src/lib.rt: divides by (, not by a power of two"),
+    ("crates/field/src/lib.rt", "    correct(reduce_lazily(a))\n", "    (a % 3221225473) as u32\n", "field/src/lib.rt: divides by 3221225473, not by a power of two"),
+    ("crates/fold/src/lib.rt", "    field::add(x, x)\n", "    2 * x % Felt::MODULUS\n", "fold/src/lib.rt: divides by Felt::MODULUS, not by a power of two"),
+    ("crates/field/src/lib.rt", "    correct(reduce_lazily(a))\n", "    (a % (WORD)) as u32\n", "field/src/lib.rt: divides by (, not by a power of two"),
     ("docs/PROMISES.md", "FoldLaws: fold-law`", "FoldLaws: fold-low`", "fold/FoldLaws has no fold-low"),
 ]
 

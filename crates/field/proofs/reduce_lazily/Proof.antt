@@ -1,6 +1,5 @@
 -- `reduce_lazily` meets its contract: modulo 2^32 it takes p away as often as the quotient says.
 -- Assumes nothing.
-use mathlib.Core.Path.{_≡_, sym, ap, _∙_}
 use borrow.Author.Needs.{needs}
 use Rattle.field.proofs.Reduction.{taken-away}
 use Rattle.field.proofs.reduce_lazily.Statement.{statement}
