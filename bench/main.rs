@@ -230,6 +230,10 @@ fn evaluations(table: &mut Table, rng: &mut Rng) {
             format!("eval of {count} coefficients; Rust with one remainder a step"),
             batch(peers::eval_one_remainder),
         );
+        table.row(
+            format!("eval of {count} coefficients; Rust by the same pairs"),
+            batch(peers::eval_by_pairs),
+        );
     }
 }
 
@@ -501,9 +505,14 @@ fn writings(table: &mut Table, rng: &mut Rng) {
         peer: peers::write_by_one_remainder,
         ..two_remainders
     };
+    let pairs = Sides::<Write> {
+        peer: peers::write_by_pairs,
+        ..two_remainders
+    };
     let ways = [
         (two_remainders, ""),
         (one_remainder, "; Rust with one remainder a step"),
+        (pairs, "; Rust by the same pairs"),
     ];
     for [n, b, k, q] in [[6, 2, 2, 8], [10, 6, 4, 16], [10, 3, 5, 16], [10, 1, 5, 32]] {
         let params = Params::new(n, b, k, q);

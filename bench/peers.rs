@@ -225,6 +225,20 @@ pub extern "C" fn eval_one_remainder(coefficients: &Coefficients, count: usize, 
     eval_by_one_remainder(&coefficients[..count.min(coefficients.len())], x)
 }
 
+/// Two coefficients a step, as the library takes them.
+fn eval_by_pairs_of(coefficients: &[u32], x: u32) -> u32 {
+    let square = field::mul(x, x);
+    let (first, pairs) = coefficients.split_at(coefficients.len() % 2);
+    let step = |value, pair: &[u32]| mul_add(value, square, mul_add(pair[1], x, pair[0]));
+    let value = pairs.chunks_exact(2).rev().fold(0, step);
+    first.iter().fold(value, |value, &c| mul_add(value, x, c))
+}
+
+#[inline(never)]
+pub extern "C" fn eval_by_pairs(coefficients: &Coefficients, count: usize, x: u32) -> u32 {
+    eval_by_pairs_of(&coefficients[..count.min(coefficients.len())], x)
+}
+
 /// Each pair of coefficients to the even one plus β times the odd one, in place.
 fn fold_in_place(poly: &mut [u32], pair: impl Fn(u32, u32) -> u32) {
     for i in 0..poly.len() / 2 {
@@ -281,4 +295,5 @@ macro_rules! writers {
 writers! {
     write by fold::eval;
     write_by_one_remainder by eval_by_one_remainder;
+    write_by_pairs by eval_by_pairs_of;
 }
