@@ -9,7 +9,7 @@ use lib.ListN.{length, getD, take, drop, length-take, take-append-drop}
 use borrow.Author.Tests.{leb-true, leb-false, ltb-true, eqb-true}
 use Rattle.answer.specs.Table.{count-differs, parameters-differ, not-below-modulus, not-the-folded-value, path-misses-root, misses-final-polynomial}
 use Rattle.params.specs.declared.Params.{Params}
-use Rattle.params.specs.Parameters.{header, height, indexBits, finalCount}
+use Rattle.params.specs.Parameters.{headerSize, header, height, indexBits, finalCount}
 use Rattle.field.specs.Modular.{p as modulus}
 use Rattle.message.specs.Bytes.{le, num, joined, words}
 use Rattle.message.specs.Message.{Digest}
@@ -242,7 +242,7 @@ module _ (hash : List ℕ → Digest) (p : Params) where
   pub inverts-sections : (context : List ℕ) → Inverts (sections hash p context) (λ us _. Accepted hash p context us)
   unfolding sections encode drawnLeaf words
   inverts-sections context =
-      inverts-then (inverts-count 4) (inverts-next _ (inverts-bytes 4) (λ parameters _. inverts-test _ parameters-differ (λ same.
+      inverts-then (inverts-count headerSize) (inverts-next _ (inverts-bytes headerSize) (λ parameters _. inverts-test _ parameters-differ (λ same.
       inverts-then (inverts-count (p .k)) (inverts-next _ (inverts-digests (p .k)) (λ roots hr.
       inverts-then (inverts-count (finalCount p)) (inverts-next _ (inverts-many 0 (finalCount p) inverts-number) (λ final hf.
       inverts-then (inverts-count (p .q)) (weaken (inverts-queries final _ (start hash (header p) context) roots (p .q) 0) (λ us _ asked.

@@ -8,7 +8,7 @@ use lib.ListN.{length, getD}
 use borrow.Author.Tests.{lt-ltb, eq-eqb}
 use Rattle.answer.specs.Table.{count-differs, parameters-differ, not-below-modulus, not-the-folded-value, path-misses-root, misses-final-polynomial}
 use Rattle.params.specs.declared.Params.{Params}
-use Rattle.params.specs.Parameters.{Valid, header, indexBits, finalCount}
+use Rattle.params.specs.Parameters.{Valid, headerSize, header, indexBits, finalCount}
 use Rattle.params.proofs.ParameterLaws.{final-small}
 use Rattle.field.specs.Modular.{p as modulus}
 use Rattle.message.specs.Bytes.{le, num, joined, words}
@@ -71,8 +71,8 @@ module _ (hash : List ℕ → Digest) (p : Params) where
   reads-sections context proof v layout holds =
       let s : Digest = start hash (header p) context in
       let t : Digest = finish hash (absorbed hash s (proof .roots)) (proof .final) in
-      reads-then (reads-count 4 (omega arith))
-      (reads-bind {xs = header p} _ (reads-bytes (header p) 4 refl)
+      reads-then (reads-count headerSize (omega arith))
+      (reads-bind {xs = header p} _ (reads-bytes (header p) headerSize refl)
       (reads-test _ parameters-differ (same-self (header p))
       (reads-then (reads-count (p .k) (omega arith))
       (reads-bind _ (reads-digests (p .k) (proof .roots) (layout .root-count) (layout .root-digest))

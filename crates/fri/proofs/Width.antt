@@ -7,7 +7,7 @@ use native.Mathlib.Omega.{arith}
 use lib.ListN.{length}
 use Rattle.answer.specs.Table.{answered, accepted, count-differs, parameters-differ, not-below-modulus, not-the-folded-value, path-misses-root, misses-final-polynomial}
 use Rattle.params.specs.declared.Params.{Params}
-use Rattle.params.specs.Parameters.{header, height, indexBits, finalCount, queryLength, queriesOffset, fileLength}
+use Rattle.params.specs.Parameters.{headerSize, header, height, indexBits, finalCount, queryLength, queriesOffset, fileLength}
 use Rattle.message.specs.Message.{Digest}
 use Rattle.domain.specs.Domain.{half}
 use Rattle.transcript.specs.Transcript.{start, absorb, finish, drawn, absorbed}
@@ -50,7 +50,7 @@ module _ (hash : List ℕ → Digest) (p : Params) where
   takes-sections context =
       let s : Digest = start hash (header p) context in
       subst (λ w. Takes (sections hash p context) w Any) (omega arith)
-      (takes-then (takes-count 4) (takes-bind _ (takes-bytes 4) (λ parameters _. takes-then (takes-ensure _ parameters-differ (omega arith))
+      (takes-then (takes-count headerSize) (takes-bind _ (takes-bytes headerSize) (λ parameters _. takes-then (takes-ensure _ parameters-differ (omega arith))
       (takes-then (takes-count (p .k)) (takes-bind _ (takes-many (p .k) (takes-bytes 32)) (λ roots e. takes-then (takes-count (finalCount p))
       (takes-bind _ (takes-many (finalCount p) takes-number) (λ final _. takes-then (takes-count (p .q))
       (rw e at (takes-queries (p .q) 0 final (finish hash (absorbed hash s roots) final) s roots))))))))))

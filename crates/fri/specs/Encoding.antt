@@ -7,7 +7,7 @@ use Rattle.field.specs.Modular.{p as modulus}
 use Rattle.message.specs.Bytes.{le, joined, words}
 use Rattle.message.specs.Message.{Digest}
 use Rattle.params.specs.declared.Params.{Params}
-use Rattle.params.specs.Parameters.{header, finalCount, height}
+use Rattle.params.specs.Parameters.{headerSize, header, finalCount, height}
 
 -- One query's opening in one layer: the values at leaf m and at m + half, and the siblings from the leaf up.
 pub record Opening : Type 0 where
@@ -35,7 +35,7 @@ queryBytes os = joined (map openingBytes os)
 -- The four sections, each after its count as 2 bytes, low byte first.
 unfoldable pub encode : Params → Proof → List ℕ
 encode p proof =
-    le 2 4
+    le 2 headerSize
     ++ (header p
     ++ (le 2 (p .k)
     ++ (joined (proof .roots)

@@ -8,7 +8,7 @@ use lib.ListN.{length}
 use Rattle.answer.specs.declared.Answer.{Answer}
 use Rattle.answer.specs.Table.{answered, open-so-far, accepted, parameters-not-valid, count-differs, parameters-differ, not-below-modulus, not-the-folded-value, path-misses-root, misses-final-polynomial, too-few-bytes, byte-after-the-end}
 use Rattle.params.specs.declared.Params.{Params}
-use Rattle.params.specs.Parameters.{header, valid, finalCount, height, indexBits}
+use Rattle.params.specs.Parameters.{headerSize, header, valid, finalCount, height, indexBits}
 use Rattle.field.specs.Modular.{p as modulus}
 use Rattle.message.specs.Bytes.{num}
 use Rattle.message.specs.Message.{Digest}
@@ -66,8 +66,8 @@ module _ (hash : List ℕ → Digest) (p : Params) where
   -- The four sections.
   unfoldable pub sections : List ℕ → Parser (Unit {0})
   sections context = do
-    count 4
-    parameters ← bytes 4
+    count headerSize
+    parameters ← bytes headerSize
     ensure (sameBytes parameters (header p)) parameters-differ
     count (p .k)
     roots ← many (p .k) (bytes 32)

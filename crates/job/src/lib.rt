@@ -1,16 +1,19 @@
-// Jobs: n, b, k, q, 32 context bytes, then the proof. A job is read from a file in chunks, with fixed memory, and judged; its answer makes a
+// Jobs: the parameter bytes, 32 context bytes, then the proof. A job is read from a file in chunks, with fixed memory, and judged; its answer makes a
 // line, `accepted L` or `refused NUMBER at PLACE`.
 ghost use mathlib.Core.Path.{_≡_};
 ghost use Prim.Native.Nat.{_+_, _-_, _≤_, _<_};
 ghost use lib.ListN.{length};
 ghost use Rattle.io.specs.Counts.{Counts};
 ghost use Rattle.answer.specs.Table.{answered, job-too-short};
-ghost use Rattle.job.specs.Job.{Answers};
+ghost use Rattle.job.specs.Job.{headSize, Answers};
 ghost use Rattle.job.specs.Line.{lineOf, stored, decimal};
 ghost use Rattle.job.specs.Private.{Feeds, Judges, longer};
 use answer::Answer;
 use params::Params;
 use reader_model::Reader;
+
+// The bytes of a job's head: parameters and context.
+const HEAD_SIZE: usize = params::HEADER_SIZE + 32;
 
 // A job's answer, and how many bytes of the most that it may have are still to be read.
 pub struct Judged {
@@ -114,7 +117,7 @@ fn judge_proof(fd: i32, p: Params, context: [u8; 32], most: u32) -> Judged
 
 // The answer to a job that ends in its head, after so many bytes.
 fn too_short(got: usize, most: u32) -> Judged
-    requires { ⌜ (got < 36) × (got ≤ most) ⌝ }
+    requires { ⌜ (got < headSize) × (got ≤ most) ⌝ }
     ensures { λ r. ⌜ (r .answer ≡ answered job-too-short got) × (r .rest ≡ most - got) ⌝ }
 {
     let place = got as u32;
@@ -130,10 +133,10 @@ fn too_short(got: usize, most: u32) -> Judged
 
 // A job of at most so many bytes, too few for a head.
 fn judge_short(fd: i32, most: u32) -> Judged
-    requires { ⌜ most < 36 ⌝ }
+    requires { ⌜ most < headSize ⌝ }
     ensures { λ r. ⌜ Answers most r ⌝ }
 {
-    let mut head = [0u8; 36];
+    let mut head = [0u8; HEAD_SIZE];
     let want = most as usize;
     let got = io::read_full(fd, &mut head[..want]);
     too_short(least(got, want), most)
@@ -144,26 +147,25 @@ fn judge_short(fd: i32, most: u32) -> Judged
 pub fn judge(fd: i32, most: u32) -> Judged
     ensures { λ r. ⌜ Answers most r ⌝ }
 {
-    if most < 36 {
+    if (most as usize) < HEAD_SIZE {
         return judge_short(fd, most);
     }
-    let mut p = [0u8; 4];
-    let got = io::read_full(fd, &mut p);
-    if got < 4 {
+    let mut header = [0u8; params::HEADER_SIZE];
+    let got = io::read_full(fd, &mut header);
+    if got < params::HEADER_SIZE {
         return too_short(got, most);
     }
     let mut context = [0u8; 32];
     let more = io::read_full(fd, &mut context);
     if more < 32 {
-        return too_short(4 + more, most);
+        return too_short(params::HEADER_SIZE + more, most);
     }
-    let params = Params {
-        n: p[0],
-        b: p[1],
-        k: p[2],
-        q: p[3],
-    };
-    judge_proof(fd, params, context, most - 36)
+    judge_proof(
+        fd,
+        params::from_header(header),
+        context,
+        most - HEAD_SIZE as u32,
+    )
 }
 
 // A line: its characters, then zeros; and how many characters there are.

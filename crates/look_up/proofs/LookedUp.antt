@@ -12,7 +12,7 @@ use Rattle.message.specs.Bytes.{le, part, joined, words}
 use Rattle.message.specs.Message.{Digest}
 use Rattle.message.proofs.Bytes.{Bytes, Sized, sized, le-length, part-at, part-part, joined-at, joined-length}
 use Rattle.params.specs.declared.Params.{Params}
-use Rattle.params.specs.Parameters.{Valid, header, finalCount, openingLength, queryLength, queriesOffset, openingOffset, fileLength}
+use Rattle.params.specs.Parameters.{Valid, headerSize, header, finalCount, openingLength, queryLength, queriesOffset, openingOffset, fileLength}
 use Rattle.params.proofs.ParameterLaws.{valid-test}
 use Rattle.fri.specs.Encoding.{Opening, Proof, noOpening, openingAt, openingBytes, queryBytes, encode, IsOpening, HasLayout}
 use Rattle.fri.specs.Judge.{verdict}
@@ -53,7 +53,7 @@ query-at qs i = List·getD-map queryBytes qs i []
 -- What stands before the openings.
 abbrev front : Params → Proof → List ℕ
 front p proof =
-    le 2 4 ++ (header p ++ (le 2 (p .k) ++ (joined (proof .roots) ++ (le 2 (finalCount p) ++ (words (proof .final) ++ le 2 (p .q))))))
+    le 2 headerSize ++ (header p ++ (le 2 (p .k) ++ (joined (proof .roots) ++ (le 2 (finalCount p) ++ (words (proof .final) ++ le 2 (p .q))))))
 
 encode-split : (p : Params) (proof : Proof) → encode p proof ≡ front p proof ++ joined (map queryBytes (proof .queries))
 unfolding encode

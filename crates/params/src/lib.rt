@@ -10,11 +10,29 @@ pub struct Params {
     pub q: u8,
 }
 
-// The parameter bytes, as section 1 and the first hash have them.
-pub fn header(p: Params) -> [u8; 4]
+// The number of parameter bytes.
+pub const HEADER_SIZE: usize = 4;
+
+// Where section 2's count stands.
+pub const ROOT_COUNT_OFFSET: usize = 2 + HEADER_SIZE;
+
+// The parameter bytes, as section 1, the first hash and a job have them.
+pub fn header(p: Params) -> [u8; HEADER_SIZE]
     ensures { λ r. ⌜ r ≡ spec.header p ⌝ }
 {
     [p.n, p.b, p.k, p.q]
+}
+
+// The parameters that such bytes are.
+pub fn from_header(bytes: [u8; HEADER_SIZE]) -> Params
+    ensures { λ r. ⌜ r ≡ spec.fromHeader bytes ⌝ }
+{
+    Params {
+        n: bytes[0],
+        b: bytes[1],
+        k: bytes[2],
+        q: bytes[3],
+    }
 }
 
 fn in_range(low: u8, x: u8, high: u8) -> bool
@@ -43,6 +61,13 @@ pub fn index_bits(p: Params) -> u8
     p.n - 1
 }
 
+// The number of values in a leaf.
+pub fn values_per_leaf(p: Params) -> usize
+    ensures { λ r. ⌜ r ≡ spec.valuesPerLeaf p ⌝ }
+{
+    2
+}
+
 // The height of a layer's tree: the number of siblings in an opening.
 pub fn height(p: Params, layer: u8) -> usize
     ensures { λ r. ⌜ r ≡ spec.height p layer ⌝ }
@@ -55,11 +80,18 @@ pub fn height(p: Params, layer: u8) -> usize
     n - below
 }
 
+// The bytes of a leaf's values.
+pub fn leaf_length(p: Params) -> usize
+    ensures { λ r. ⌜ r ≡ spec.leafLength p ⌝ }
+{
+    4 * values_per_leaf(p)
+}
+
 // The bytes of an opening in a layer.
 pub fn opening_length(p: Params, layer: u8) -> usize
     ensures { λ r. ⌜ r ≡ spec.openingLength p layer ⌝ }
 {
-    8 + 32 * height(p, layer)
+    leaf_length(p) + 32 * height(p, layer)
 }
 
 // The bytes of a query's openings in the first layers.
@@ -87,12 +119,30 @@ pub fn final_count(p: Params) -> usize
     }
 }
 
+// Where a layer's root stands; after the last one stands section 3's count.
+pub fn root_offset(layer: u8) -> usize
+    ensures { λ r. ⌜ r ≡ spec.rootOffset layer ⌝ }
+{
+    ROOT_COUNT_OFFSET + 2 + 32 * layer as usize
+}
+
+// Where section 4's count stands.
+pub fn query_count_offset(p: Params) -> usize
+    ensures { λ r. ⌜ r ≡ spec.ifValid p (spec.queryCountOffset p) ⌝ }
+{
+    if is_valid(p) {
+        root_offset(p.k) + 2 + 4 * final_count(p)
+    } else {
+        0
+    }
+}
+
 // Where section 4's first opening stands.
 pub fn queries_offset(p: Params) -> usize
     ensures { λ r. ⌜ r ≡ spec.ifValid p (spec.queriesOffset p) ⌝ }
 {
     if is_valid(p) {
-        12 + 32 * p.k as usize + 4 * final_count(p)
+        query_count_offset(p) + 2
     } else {
         0
     }

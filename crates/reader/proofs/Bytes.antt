@@ -11,7 +11,7 @@ use lib.Seq.{length-take-le, getD-take, getD-drop, ext-getD}
 use lib.Dec.{eqb, ltb}
 use borrow.Author.Tests.{lt-ltb, ltb-true}
 use Rattle.params.specs.declared.Params.{Params}
-use Rattle.params.specs.Parameters.{header}
+use Rattle.params.specs.Parameters.{headerSize, header}
 use Rattle.domain.specs.Domain.{half}
 use Rattle.domain.proofs.Index.{mod-half}
 use Rattle.fri.specs.Judge.{sameBytes, named}
@@ -40,22 +40,22 @@ part-same d l at long fits each = sym (rw (← same) (same-self d))
         let h′ : i < 32 = omega (arith, long) in
         each i h′ ∙ sym (getD-take 32 (drop at l) i 0 h′ ∙ getD-drop at l i 0))
 
--- The parameter bytes against the first four of an item.
-and-true : (a : Bool) → (a && true) ≡ a
-and-true true = refl
-and-true false = refl
+-- The parameter bytes against the first of an item: one byte that differs, or none.
+pub header-differs : {h : List ℕ} (d : List ℕ) (p : Params) (i : ℕ) → h ≡ header p → i < headerSize → (getD d i 0 ≡ getD h i 0 → ⊥)
+    → false ≡ sameBytes (take headerSize d) (header p)
+header-differs d p i e l ne =
+    same-differ (take headerSize d) (header p) i (λ g. ne (sym (getD-take headerSize d i 0 l) ∙ g ∙ ap (λ (x : List ℕ). getD x i 0) (sym e)))
 
-front-four : (d : List ℕ) → 4 ≤ length d → take 4 d ≡ getD d 0 0 ∷ getD d 1 0 ∷ getD d 2 0 ∷ getD d 3 0 ∷ []
-front-four [] h = absurd (omega arith)
-front-four (a ∷ []) h = absurd (omega arith)
-front-four (a ∷ b ∷ []) h = absurd (omega arith)
-front-four (a ∷ b ∷ c ∷ []) h = absurd (omega arith)
-front-four (a ∷ b ∷ c ∷ e ∷ d) h = refl
-
-pub same-header : (d : List ℕ) (p : Params) → 4 ≤ length d
-    → (eqb (getD d 0 0) (p .n) && (eqb (getD d 1 0) (p .b) && (eqb (getD d 2 0) (p .k) && eqb (getD d 3 0) (p .q)))) ≡ sameBytes (take 4 d) (header p)
-unfolding sameBytes
-same-header d p h = sym (rw (front-four d h, and-true (eqb (getD d 3 0) (p .q))))
+pub header-same : {h : List ℕ} (d : List ℕ) (p : Params) → h ≡ header p → headerSize ≤ length d
+    → ((k : ℕ) → k < headerSize → getD d k 0 ≡ getD h k 0) → true ≡ sameBytes (take headerSize d) (header p)
+header-same {h} d p e fits each = sym (rw same (same-self (header p)))
+  where
+    same : take headerSize d ≡ header p
+    same =
+        ext-getD 0 (take headerSize d) (header p) (length-take-le headerSize d fits)
+        (λ i l.
+        let l′ : i < headerSize = omega (arith, length-take-le headerSize d fits) in
+        getD-take headerSize d i 0 l′ ∙ each i l′ ∙ ap (λ (x : List ℕ). getD x i 0) e)
 
 -- An index names the first value where it is its own leaf, else the second.
 pub names-first : {leaf : ℕ} (p : Params) (j m a c : ℕ) → leaf ≡ m % half (p .n) j → leaf ≡ m → a ≡ named p j m a c

@@ -40,7 +40,7 @@ fn dispatch(
     let stage = c.stage;
     let params = c.params;
     match stage {
-        Stage::ParameterCount => sections::after_count(c, 4, Stage::Parameters),
+        Stage::ParameterCount => sections::after_count(c, params::HEADER_SIZE, Stage::Parameters),
         Stage::Parameters => sections::after_parameters(c),
         Stage::RootCount => sections::after_count(c, params.k as usize, Stage::Root),
         Stage::Root => sections::after_root(c, roots, challenges),

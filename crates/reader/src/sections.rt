@@ -4,7 +4,7 @@ ghost use Prim.Native.Nat.{_+_, _*_, _<_};
 ghost use lib.ListN.{take};
 ghost use lib.Seq.{sets};
 ghost use Rattle.sha256.specs.Sha256.{sha256};
-ghost use Rattle.params.specs.Parameters.{header};
+ghost use Rattle.params.specs.Parameters.{headerSize, header};
 ghost use Rattle.transcript.specs.Transcript.{finish};
 ghost use Rattle.fri.specs.Judge.{sameBytes};
 ghost use Rattle.reader_model.specs.Items.{afterCount, afterParameters, afterRoot, rootsAfter, challengesAfter, afterCoefficient, coefficientsAfter, atQuery, afterQueryCount};
@@ -33,9 +33,17 @@ pub fn after_count(c: Core, want: usize, stage: Stage) -> Core
 
 // Whether the item's first bytes are the caller's parameters.
 fn same_parameters(item: [u8; 32], p: Params) -> bool
-    ensures { λ r. ⌜ r ≡ sameBytes (take 4 item) (header p) ⌝ }
+    ensures { λ r. ⌜ r ≡ sameBytes (take headerSize item) (header p) ⌝ }
 {
-    (item[0] == p.n) & ((item[1] == p.b) & ((item[2] == p.k) & (item[3] == p.q)))
+    let bytes = params::header(p);
+    let mut i = 0;
+    while i < params::HEADER_SIZE {
+        if item[i] != bytes[i] {
+            return false;
+        }
+        i += 1;
+    }
+    true
 }
 
 pub fn after_parameters(c: Core) -> Core

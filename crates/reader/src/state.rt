@@ -21,7 +21,7 @@ pub fn item_length(stage: Stage) -> usize
 {
     match stage {
         Stage::ParameterCount => 2,
-        Stage::Parameters => 4,
+        Stage::Parameters => params::HEADER_SIZE,
         Stage::RootCount => 2,
         Stage::Root => 32,
         Stage::CoefficientCount => 2,

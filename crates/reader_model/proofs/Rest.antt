@@ -10,7 +10,7 @@ use Rattle.message.specs.Bytes.{num, joined}
 use Rattle.message.specs.Message.{Digest}
 use Rattle.message.proofs.Bytes.{Sized}
 use Rattle.params.specs.declared.Params.{Params}
-use Rattle.params.specs.Parameters.{Valid, header, finalCount, height}
+use Rattle.params.specs.Parameters.{Valid, headerSize, header, finalCount, height}
 use Rattle.domain.specs.Domain.{half, point}
 use Rattle.merkle.specs.Merkle.{climb, leaf, join}
 use Rattle.transcript.specs.Transcript.{start, absorb, challenge, finish, absorbed}
@@ -68,7 +68,7 @@ module _ (hash : List ℕ → Digest) (p : Params) (context : List ℕ) where
   abbrev pub withCoefficient : List Digest → List ℕ → ℕ → ℕ → Process
   withCoefficient roots final more v = many more number (λ rest. toSection4 roots (final ++ v ∷ rest))
 
-  pub judgement-is : judgement hash p context ≡ need 2 (counting 4 (need 4 withParameters))
+  pub judgement-is : judgement hash p context ≡ need 2 (counting headerSize (need headerSize withParameters))
   unfolding judgement sections _>>=_ _>>_ bytes count
   judgement-is = refl
 
@@ -175,9 +175,9 @@ module _ (hash : List ℕ → Digest) (context : List ℕ) where
   -- A state with these parts waits for an item of so many bytes, and with them this is left.
   pub data Waiting (p : Params) (c : Cursor) (w : Walk) (transcript : Digest) (t : Tables) : Stage → ℕ → (List ℕ → Process) → Type 0 where
     parameter-count : Early hash p context (c .coefficient) transcript t [] [] → c .layer ≡ 0
-        → Waiting p c w transcript t ParameterCount 2 (counting 4 (need 4 (withParameters hash p context)))
+        → Waiting p c w transcript t ParameterCount 2 (counting headerSize (need headerSize (withParameters hash p context)))
     parameters : Early hash p context (c .coefficient) transcript t [] [] → c .layer ≡ 0
-        → Waiting p c w transcript t Parameters 4 (withParameters hash p context)
+        → Waiting p c w transcript t Parameters headerSize (withParameters hash p context)
     root-count : Early hash p context (c .coefficient) transcript t [] [] → c .layer ≡ 0
         → Waiting p c w transcript t RootCount 2 (counting (p .k) (many (p .k) (bytes 32) (toSection3 hash p context)))
     root : {roots : List Digest} (more : ℕ) → Early hash p context (c .coefficient) transcript t roots [] → c .layer ≡ length roots

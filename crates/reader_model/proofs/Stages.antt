@@ -13,7 +13,7 @@ use Rattle.field.specs.Modular.{p as modulus}
 use Rattle.message.specs.Message.{Digest}
 use Rattle.message.proofs.Bytes.{joined-length}
 use Rattle.params.specs.declared.Params.{Params}
-use Rattle.params.specs.Parameters.{finalCount}
+use Rattle.params.specs.Parameters.{headerSize, finalCount}
 use Rattle.params.proofs.ParameterLaws.{valid-test, if-valid, final-small}
 use Rattle.transcript.specs.Transcript.{absorb, challenge, finish, absorbed}
 use Rattle.fri.specs.Process.{Process, bytes, ensure, many, pure, _>>=_, _>>_}
@@ -73,7 +73,7 @@ module _ {hash : List ℕ → Digest} {context : List ℕ} (c : Core) (t : Table
   after-number q f = tested c _ _ not-below-modulus (λ _. q (numberOf c)) refl f
 
   pub after-parameters : After hash context (movedTo c RootCount) t (place c) (toSection2 hash (c .params) context)
-      → After hash context (afterParameters c) t (place c) (withParameters hash (c .params) context (take 4 (c .item)))
+      → After hash context (afterParameters c) t (place c) (withParameters hash (c .params) context (take headerSize (c .item)))
   unfolding afterParameters
   after-parameters a = tested c _ _ parameters-differ (λ _. toSection2 hash (c .params) context) refl (λ _. a)
 

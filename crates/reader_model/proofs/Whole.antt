@@ -16,7 +16,7 @@ use Rattle.message.specs.Bytes.{joined}
 use Rattle.message.specs.Message.{Digest}
 use Rattle.message.proofs.Bytes.{Sized}
 use Rattle.params.specs.declared.Params.{Params}
-use Rattle.params.specs.Parameters.{Valid, finalCount, fileLength}
+use Rattle.params.specs.Parameters.{Valid, headerSize, finalCount, fileLength}
 use Rattle.params.proofs.ParameterLaws.{offset-small, product-small}
 use Rattle.transcript.specs.Transcript.{absorbed}
 use Rattle.fri.specs.Process.{Process, bytes, many, pure, outcome, _>>=_, _>>_, done, fail, need}
@@ -102,7 +102,7 @@ module _ (hash : List ℕ → Digest) (context : List ℕ) where
       → After hash context (dispatched hash g c t) (kept hash g c t) (place c) (f (take u (c .item)))
   unfolding many _>>=_ _>>_ bytes pure number afterCount afterQueryCount
   dispatch c t s ParameterCount u f (parameter-count e l) =
-      after-count c t 4 4 (need 4 (withParameters hash (c .params) context)) refl (goes s (parameters e l) refl refl)
+      after-count c t headerSize headerSize (need headerSize (withParameters hash (c .params) context)) refl (goes s (parameters e l) refl refl)
   dispatch c t s Parameters u f (parameters e l) = after-parameters c t (goes s (root-count e l) refl refl)
   dispatch c t s RootCount u f (root-count e l) =
       let (more, k-is) = pred-of (c .params .k) (omega arith) in
@@ -194,7 +194,7 @@ module _ (hash : List ℕ → Digest) (context : List ℕ) where
   unfolding started absorbed joined challenges
   starts p v =
       subst (λ q. Stands hash context (started hash p context) q [] 0) (sym (judgement-is hash p context))
-      (reads {u = 2} {v = fileLength p} {d = 0} {f = counting 4 (need 4 (withParameters hash p context))} {held = []}
+      (reads {u = 2} {v = fileLength p} {d = 0} {f = counting headerSize (need headerSize (withParameters hash p context))} {held = []}
       (record {
         valid = v;
         item-size = refl;

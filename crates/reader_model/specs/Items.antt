@@ -9,7 +9,7 @@ use Rattle.answer.specs.Table.{answered, closed, count-differs, parameters-diff
 use Rattle.field.specs.Modular.{p as modulus}
 use Rattle.message.specs.Bytes.{num}
 use Rattle.message.specs.Message.{Digest}
-use Rattle.params.specs.Parameters.{header, finalCount, ifValid, height, indexBits}
+use Rattle.params.specs.Parameters.{headerSize, header, finalCount, ifValid, height, indexBits}
 use Rattle.domain.specs.Domain.{half, point}
 use Rattle.merkle.specs.Merkle.{leaf, join}
 use Rattle.transcript.specs.Transcript.{absorb, challenge, finish, drawn}
@@ -63,7 +63,7 @@ unfoldable pub afterCount : Core → ℕ → Stage → Core
 afterCount c want stage = cond (eqb (countOf c) want) (movedTo c stage) (refused c count-differs)
 
 unfoldable pub afterParameters : Core → Core
-afterParameters c = cond (sameBytes (take 4 (c .item)) (header (c .params))) (movedTo c RootCount) (refused c parameters-differ)
+afterParameters c = cond (sameBytes (take headerSize (c .item)) (header (c .params))) (movedTo c RootCount) (refused c parameters-differ)
 
 unfoldable pub afterFirst : Core → Core
 afterFirst c =
@@ -193,7 +193,7 @@ module _ (hash : List ℕ → Digest) where
 
   -- The small part after a whole item, and the tables after it.
   abbrev pub dispatched : Stage → Core → Tables → Core
-  dispatched ParameterCount c t = afterCount c 4 Parameters
+  dispatched ParameterCount c t = afterCount c headerSize Parameters
   dispatched Parameters c t = afterParameters c
   dispatched RootCount c t = afterCount c (c .params .k) Root
   dispatched Root c t = afterRoot c

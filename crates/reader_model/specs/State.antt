@@ -5,6 +5,7 @@ use lib.ListN.{replicate}
 use Rattle.answer.specs.declared.Answer.{Answer}
 use Rattle.answer.specs.Table.{answered, open-so-far, closed}
 use Rattle.params.specs.declared.Params.{Params}
+use Rattle.params.specs.Parameters.{headerSize}
 use Rattle.reader_model.specs.declared.Stage.{Stage}
 use Rattle.reader_model.specs.declared.Stage.the-variants.{ParameterCount, Parameters, RootCount, Root, CoefficientCount, Coefficient, QueryCount, First, Second, Sibling, Tail, Stopped}
 use Rattle.reader_model.specs.declared.Cursor.{Cursor}
@@ -16,7 +17,7 @@ use Rattle.reader_model.specs.declared.Reader.{Reader}
 -- The number of bytes of a stage's item. A stopped reader reads none, so a byte is taken exactly where fewer than this are there.
 abbrev pub itemLength : Stage → ℕ
 itemLength ParameterCount = 2
-itemLength Parameters = 4
+itemLength Parameters = headerSize
 itemLength RootCount = 2
 itemLength Root = 32
 itemLength CoefficientCount = 2

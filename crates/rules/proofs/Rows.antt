@@ -5,7 +5,7 @@ use mathlib.Core.Path.{_≡_, refl, ap, sym, _∙_, subst}
 use native.Mathlib.Omega.{arith}
 use Rattle.answer.specs.Table.{not-the-folded-value, misses-final-polynomial, byte-after-the-end}
 use Rattle.params.specs.declared.Params.{Params}
-use Rattle.params.specs.Parameters.{openingOffset, fileLength}
+use Rattle.params.specs.Parameters.{leafLength, openingOffset, fileLength}
 use Rattle.message.specs.Message.{Digest}
 use Rattle.fri.specs.Encoding.{Proof}
 use Rattle.fri.specs.Accepted.{FoldsTo, nextValue}
@@ -55,7 +55,7 @@ module _ (hash : List ℕ → Digest) (p : Params) (context file : List ℕ) whe
   Rules = Rule hash p context file
 
   folded-rule : (i j : ℕ) → i < p .q → j < p .k
-      → Missed hash p context file i j (valueAt hash p context file i j) → Rules not-the-folded-value (openingOffset p i j + 8)
+      → Missed hash p context file i j (valueAt hash p context file i j) → Rules not-the-folded-value (openingOffset p i j + leafLength p)
   unfolding nextValue
   folded-rule i zero b l m = absurd (omega (arith, m .before))
   folded-rule i (suc j) b l m =

@@ -7,7 +7,7 @@ use native.Mathlib.Omega.{arith}
 use lib.ListN.{getD, drop}
 use Rattle.answer.specs.Table.{count-differs, parameters-differ, not-below-modulus}
 use Rattle.params.specs.declared.Params.{Params}
-use Rattle.params.specs.Parameters.{Valid, header, finalCount, queriesOffset, openingOffset, fileLength}
+use Rattle.params.specs.Parameters.{Valid, headerSize, header, finalCount, rootCountOffset, rootOffset, finalCountOffset, coefficientOffset, queryCountOffset, queriesOffset, openingOffset, fileLength}
 use Rattle.field.specs.Modular.{p as modulus}
 use Rattle.message.specs.Bytes.{num, part}
 use Rattle.message.specs.Message.{Digest}
@@ -18,7 +18,7 @@ use Rattle.fri.specs.Judge.{sameBytes, number, queries, sections, judgement}
 use Rattle.fri.specs.Accepted.{drawnLeaf}
 use Rattle.fri.proofs.Tabulate.{tabulate-at}
 use Rattle.fri.proofs.Same.{same-equal}
-use Rattle.rules.specs.Rules.{coefficientOffset, proofIn}
+use Rattle.rules.specs.Rules.{proofIn}
 use Rattle.rules.proofs.Faults.{Faults, One, Either, Some}
 use Rattle.rules.proofs.Steps.{Step, Through, then, only, tested, in-a-row, bytes-taken, many-taken}
 use Rattle.rules.proofs.Parts.{differ, count-taken, number-taken, digests-taken}
@@ -34,12 +34,12 @@ module _ (hash : List ℕ → Digest) (p : Params) (context file : List ℕ) whe
   CoefficientFaults i = One (¬ (getD (proof .final) i 0 < modulus)) not-below-modulus (coefficientOffset p i + 4)
 
   coefficients-step : (k : List ℕ → Process)
-      → Through file (Some CoefficientFaults (finalCount p)) (10 + 32 * p .k) (coefficientOffset p (finalCount p))
+      → Through file (Some CoefficientFaults (finalCount p)) (finalCountOffset p + 2) (queryCountOffset p)
       (many (finalCount p) number k) (k (proof .final))
-  unfolding proofIn coefficientOffset
+  unfolding proofIn
   coefficients-step k =
       let read : ℕ → ℕ = λ i. num (part (coefficientOffset p i) 4 file) in
-      rw (add-zero (10 + 32 * p .k)) at (many-taken {file = file} (finalCount p) number CoefficientFaults (coefficientOffset p) read k
+      rw (add-zero (finalCountOffset p + 2)) at (many-taken {file = file} (finalCount p) number CoefficientFaults (coefficientOffset p) read k
       (λ i h l.
       rw (tabulate-at (finalCount p) read i 0 h)
       (number-taken (coefficientOffset p i) (coefficientOffset p (suc i)) (coefficientOffset p i + 4) _ l (omega arith) (omega arith) refl)))
@@ -74,28 +74,28 @@ module _ (hash : List ℕ → Digest) (p : Params) (context file : List ℕ) whe
   -- All of them, in the file's order.
   abbrev pub AllFaults : Faults
   AllFaults =
-      Either (One (¬ (num (part 0 2 file) ≡ 4)) count-differs 2)
-      (Either (One (¬ (part 2 4 file ≡ header p)) parameters-differ 6)
-      (Either (One (¬ (num (part 6 2 file) ≡ p .k)) count-differs 8)
-      (Either (One (¬ (num (part (8 + 32 * p .k) 2 file) ≡ finalCount p)) count-differs (10 + 32 * p .k))
+      Either (One (¬ (num (part 0 2 file) ≡ headerSize)) count-differs 2)
+      (Either (One (¬ (part 2 headerSize file ≡ header p)) parameters-differ (2 + headerSize))
+      (Either (One (¬ (num (part rootCountOffset 2 file) ≡ p .k)) count-differs (rootCountOffset + 2))
+      (Either (One (¬ (num (part (finalCountOffset p) 2 file) ≡ finalCount p)) count-differs (finalCountOffset p + 2))
       (Either (Some CoefficientFaults (finalCount p))
-      (Either (One (¬ (num (part (10 + 32 * p .k + 4 * finalCount p) 2 file) ≡ p .q)) count-differs (queriesOffset p))
+      (Either (One (¬ (num (part (queryCountOffset p) 2 file) ≡ p .q)) count-differs (queryCountOffset p + 2))
       (Some (QueryFaults hash p context file) (p .q)))))))
 
   pub judgement-step : Valid p
       → Step file AllFaults 0 (fileLength p) (run (judgement hash p context) file 0) (ended (drop (fileLength p) file) (fileLength p))
-  unfolding judgement sections bytes _>>=_ _>>_ run left outcome proofIn coefficientOffset queriesOffset
+  unfolding judgement sections bytes _>>=_ _>>_ run left outcome proofIn queriesOffset
   judgement-step v =
-      then (count-taken 4 0 2 _ refl)
+      then (count-taken headerSize 0 2 _ refl)
       (then
       (only
-      (tested _ _ (sameBytes (part 2 4 file) (header p)) parameters-differ (omega arith)
-      (λ t n. n (same-equal _ _ t)) (differ _ _) (λ c d f. absurd f) (bytes-taken 4 2 6 _ refl)))
-      (then (count-taken (p .k) 6 8 _ refl)
+      (tested _ _ (sameBytes (part 2 headerSize file) (header p)) parameters-differ (omega arith)
+      (λ t n. n (same-equal _ _ t)) (differ _ _) (λ c d f. absurd f) (bytes-taken headerSize 2 (2 + headerSize) _ refl)))
+      (then (count-taken (p .k) rootCountOffset (rootCountOffset + 2) _ refl)
       (then
       (only
-      (then (digests-taken (p .k) 8 (8 + 32 * p .k) (proof .roots) _ refl refl)
-      (count-taken (finalCount p) (8 + 32 * p .k) (10 + 32 * p .k) _ (omega arith))))
+      (then (digests-taken (p .k) (rootCountOffset + 2) (finalCountOffset p) (proof .roots) _ refl refl)
+      (count-taken (finalCount p) (finalCountOffset p) (finalCountOffset p + 2) _ refl)))
       (then (coefficients-step _)
-      (then (count-taken (p .q) (10 + 32 * p .k + 4 * finalCount p) (queriesOffset p) _ (omega arith))
+      (then (count-taken (p .q) (queryCountOffset p) (queryCountOffset p + 2) _ refl)
       (queries-step v (λ _. done)))))))

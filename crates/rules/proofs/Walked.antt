@@ -10,7 +10,7 @@ use lib.ListN.{length, getD, take, drop, drop-of-length-le}
 use lib.Seq.{drop-cons, take-suc}
 use Rattle.answer.specs.Table.{not-below-modulus, not-the-folded-value, path-misses-root, misses-final-polynomial}
 use Rattle.params.specs.declared.Params.{Params}
-use Rattle.params.specs.Parameters.{Valid, header, height, openingOffset}
+use Rattle.params.specs.Parameters.{Valid, header, height, leafLength, openingOffset}
 use Rattle.field.specs.Modular.{p as modulus}
 use Rattle.message.specs.Message.{Digest}
 use Rattle.domain.specs.Domain.{half, point}
@@ -106,8 +106,8 @@ module _ (hash : List ℕ → Digest) (p : Params) (context file : List ℕ) whe
   LayerFaults i j =
       Either (One (¬ (opened i j .first < modulus)) not-below-modulus (openingOffset p i j + 4))
       (Either
-      (Either (One (¬ (opened i j .second < modulus)) not-below-modulus (openingOffset p i j + 8))
-      (One (Missed i j (valueAt i j)) not-the-folded-value (openingOffset p i j + 8)))
+      (Either (One (¬ (opened i j .second < modulus)) not-below-modulus (openingOffset p i j + leafLength p))
+      (One (Missed i j (valueAt i j)) not-the-folded-value (openingOffset p i j + leafLength p)))
       (One (¬ (climbed i j ≡ rootAt proof j)) path-misses-root (openingEnd p i j)))
 
   -- A layer is a step.
@@ -126,11 +126,11 @@ module _ (hash : List ℕ → Digest) (p : Params) (context file : List ℕ) whe
       (then
       (tested _ _ (fits (meets i j) (valueAt i j)) not-the-folded-value
       (omega arith) (met i j _) (missed i j _) (λ c d f. number-first (f .by-number) refl (f .by-place))
-      (number-taken (o + 4) (o + 8) (o + 8) (opened i j .second) _ (omega arith) refl (ap (λ u. u .second) there)))
+      (number-taken (o + 4) (o + leafLength p) (o + leafLength p) (opened i j .second) _ (omega arith) refl (ap (λ u. u .second) there)))
       (only
       (tested _ _ (sameBytes (climbed i j) (rootAt proof j)) path-misses-root
       (omega (arith, some-sibling p v j l)) (λ t n. n (same-equal _ _ t)) (differ _ _) (λ c d f. absurd f)
-      (digests-taken (height p j) (o + 8) (openingEnd p i j) (opened i j .siblings) _ (omega arith) (ap (λ u. u .siblings) there))))))
+      (digests-taken (height p j) (o + leafLength p) (openingEnd p i j) (opened i j .siblings) _ (omega arith) (ap (λ u. u .siblings) there))))))
 
   -- At the opening's end only the path is at fault.
   at-the-end : {c d : ℕ} (i j : ℕ) → 0 < height p j → openingOffset p i (suc j) ≤ d → LayerFaults i j c d

@@ -7,7 +7,7 @@ use lib.ListN.{length, getD}
 use Rattle.answer.specs.Table.{open-so-far, accepted, parameters-not-valid, count-differs, parameters-differ, not-below-modulus, not-the-folded-value, path-misses-root, misses-final-polynomial, too-few-bytes, byte-after-the-end}
 use Rattle.field.specs.Modular.{p as modulus}
 use Rattle.params.specs.declared.Params.{Params}
-use Rattle.params.specs.Parameters.{Valid, header, finalCount, height, openingLength, queriesOffset, openingOffset, fileLength}
+use Rattle.params.specs.Parameters.{Valid, headerSize, header, finalCount, height, leafLength, openingLength, rootCountOffset, rootOffset, finalCountOffset, coefficientOffset, queryCountOffset, queriesOffset, openingOffset, fileLength}
 use Rattle.message.specs.Bytes.{num, part}
 use Rattle.message.specs.Message.{Digest}
 use Rattle.domain.specs.Domain.{point}
@@ -15,10 +15,6 @@ use Rattle.merkle.specs.Merkle.{climb}
 use Rattle.fold.specs.Poly.{eval}
 use Rattle.fri.specs.Encoding.{Opening, Proof, tabulate, rootAt, openingAt}
 use Rattle.fri.specs.Accepted.{leafAt, openedLeaf, FoldsTo, nextValue}
-
--- Where coefficient i stands.
-unfoldable pub coefficientOffset : Params → ℕ → ℕ
-coefficientOffset p i = 10 + 32 * p .k + 4 * i
 
 -- Where the opening of query i in layer j ends.
 unfoldable pub openingEnd : Params → ℕ → ℕ → ℕ
@@ -30,13 +26,13 @@ openingIn p file i j =
     record {
       first = num (part (openingOffset p i j) 4 file);
       second = num (part (openingOffset p i j + 4) 4 file);
-      siblings = tabulate (height p j) (λ h. part (openingOffset p i j + 8 + 32 * h) 32 file);
+      siblings = tabulate (height p j) (λ h. part (openingOffset p i j + leafLength p + 32 * h) 32 file);
     }
 
 unfoldable pub proofIn : Params → List ℕ → Proof
 proofIn p file =
     record {
-      roots = tabulate (p .k) (λ j. part (8 + 32 * j) 32 file);
+      roots = tabulate (p .k) (λ j. part (rootOffset j) 32 file);
       final = tabulate (finalCount p) (λ i. num (part (coefficientOffset p i) 4 file));
       queries = tabulate (p .q) (λ i. tabulate (p .k) (openingIn p file i));
     }
@@ -48,19 +44,19 @@ module _ (hash : List ℕ → Digest) (p : Params) (context file : List ℕ) whe
   -- Rule c d: the rule of number c holds at place d.
   pub data Rule : ℕ → ℕ → Type 0 where
     -- 20: a section's count differs; at the count's 2nd byte
-    count-1 : ¬ (num (part 0 2 file) ≡ 4) → Rule count-differs 2
-    count-2 : ¬ (num (part 6 2 file) ≡ p .k) → Rule count-differs 8
-    count-3 : ¬ (num (part (8 + 32 * p .k) 2 file) ≡ finalCount p) → Rule count-differs (10 + 32 * p .k)
-    count-4 : ¬ (num (part (10 + 32 * p .k + 4 * finalCount p) 2 file) ≡ p .q) → Rule count-differs (queriesOffset p)
+    count-1 : ¬ (num (part 0 2 file) ≡ headerSize) → Rule count-differs 2
+    count-2 : ¬ (num (part rootCountOffset 2 file) ≡ p .k) → Rule count-differs (rootCountOffset + 2)
+    count-3 : ¬ (num (part (finalCountOffset p) 2 file) ≡ finalCount p) → Rule count-differs (finalCountOffset p + 2)
+    count-4 : ¬ (num (part (queryCountOffset p) 2 file) ≡ p .q) → Rule count-differs (queryCountOffset p + 2)
     -- 21: section 1 differs from the caller's parameters; at its last byte
-    section-1 : ¬ (part 2 4 file ≡ header p) → Rule parameters-differ 6
+    section-1 : ¬ (part 2 headerSize file ≡ header p) → Rule parameters-differ (2 + headerSize)
     -- 22: a number not below p; at its 4th byte
     coefficient : (i : ℕ) → i < finalCount p → ¬ (getD (proof .final) i 0 < modulus) → Rule not-below-modulus (coefficientOffset p i + 4)
     first-value : (i j : ℕ) → i < p .q → j < p .k → ¬ (openingAt proof i j .first < modulus) → Rule not-below-modulus (openingOffset p i j + 4)
-    second-value : (i j : ℕ) → i < p .q → j < p .k → ¬ (openingAt proof i j .second < modulus) → Rule not-below-modulus (openingOffset p i j + 8)
+    second-value : (i j : ℕ) → i < p .q → j < p .k → ¬ (openingAt proof i j .second < modulus) → Rule not-below-modulus (openingOffset p i j + leafLength p)
     -- 24: the opened value of layer j + 1 is not the one folded from layer j; at the second value's last byte
     folded-value : (i j : ℕ) → i < p .q → suc j < p .k → ¬ FoldsTo hash p context proof i j (nextValue hash p context proof i j)
-        → Rule not-the-folded-value (openingOffset p i (suc j) + 8)
+        → Rule not-the-folded-value (openingOffset p i (suc j) + leafLength p)
     -- 23: the path misses the root; at the last sibling's last byte
     path : (i j : ℕ) → i < p .q → j < p .k
         → ¬ (climb hash (openedLeaf hash p context proof i j) (leafAt hash p context proof i j) (openingAt proof i j .siblings) ≡ rootAt proof j)

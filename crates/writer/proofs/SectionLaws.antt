@@ -9,7 +9,7 @@ use lib.Seq.{sets, length-sets}
 use Rattle.sha256.specs.Sha256.{sha256}
 use Rattle.sha256.proofs.HashLaws.{length-sha256, sha256-byte}
 use Rattle.params.specs.declared.Params.{Params}
-use Rattle.params.specs.Parameters.{Valid, header, finalCount, queriesOffset, fileLength, ifValid}
+use Rattle.params.specs.Parameters.{Valid, headerSize, header, finalCount, rootCountOffset, rootOffset, finalCountOffset, coefficientOffset, queryCountOffset, queriesOffset, fileLength, ifValid}
 use Rattle.params.proofs.ParameterLaws.{from-valid}
 use Rattle.message.specs.Bytes.{le, words}
 use Rattle.message.specs.Message.{Digest}
@@ -18,7 +18,7 @@ use Rattle.transcript.specs.Transcript.{start, finish}
 use Rattle.buffer.specs.Buffer.{put}
 use Rattle.buffer.proofs.BufferLaws.{put-fits}
 use Rattle.built.specs.Built.{builtFile}
-use Rattle.writer_model.specs.Work.{Work, work, queriesIn, allLayered, begun, withFinal, ended}
+use Rattle.writer_model.specs.Work.{Work, work, headIn, queriesIn, allLayered, begun, withFinal, ended}
 use Rattle.writer_model.proofs.Layers.{stands}
 use Rattle.writer_model.proofs.File.{file-built}
 
@@ -32,49 +32,50 @@ final-inside p xs h =
 coefficients-inside : (p : Params) → Valid p → 2 ^ (p .n - p .b) ≤ 2 ^ p .n
 coefficients-inside p v = pow-mono (omega arith)
 
-pub head-left : {b d₁ d₂ d₃ : List ℕ} (p : Params) (f : List ℕ) → 8 ≤ length f → b ≡ header p → d₁ ≡ put f 0 (le 2 4) → d₂ ≡ put d₁ 2 b → d₃ ≡ put d₂ 6 (le 2 (p .k))
-    → d₃ ≡ sets (sets (sets f 0 (le 2 4)) 2 (header p)) 6 (le 2 (p .k))
+pub head-left : {b d₁ d₂ d₃ : List ℕ} (p : Params) (f : List ℕ) → rootOffset 0 ≤ length f → b ≡ header p → d₁ ≡ put f 0 (le 2 headerSize) → d₂ ≡ put d₁ 2 b
+    → d₃ ≡ put d₂ rootCountOffset (le 2 (p .k))
+    → d₃ ≡ headIn p f
 head-left {b} {d₁} {d₂} {d₃} p f h e e₁ e₂ e₃ =
-    let first : d₁ ≡ sets f 0 (le 2 4) = e₁ ∙ put-fits f 0 (le 2 4) (omega (arith, le-length 2 4)) in
-    let long₁ : length d₁ ≡ length f = ap length first ∙ length-sets f 0 (le 2 4) in
+    let first : d₁ ≡ sets f 0 (le 2 headerSize) = e₁ ∙ put-fits f 0 (le 2 headerSize) (omega (arith, le-length 2 headerSize)) in
+    let long₁ : length d₁ ≡ length f = ap length first ∙ length-sets f 0 (le 2 headerSize) in
     let second : d₂ ≡ sets d₁ 2 (header p) = e₂ ∙ ap (put d₁ 2) e ∙ put-fits d₁ 2 (header p) (omega arith) in
     let long₂ : length d₂ ≡ length d₁ = ap length second ∙ length-sets d₁ 2 (header p) in
-    e₃ ∙ put-fits d₂ 6 (le 2 (p .k)) (omega (arith, le-length 2 (p .k))) ∙ ap (λ d. sets d 6 (le 2 (p .k))) (second ∙ ap (λ d. sets d 2 (header p)) first)
+    e₃ ∙ put-fits d₂ rootCountOffset (le 2 (p .k)) (omega (arith, le-length 2 (p .k))) ∙ ap (λ d. sets d rootCountOffset (le 2 (p .k))) (second ∙ ap (λ d. sets d 2 (header p)) first)
 
-pub finish-left : {d₁ d₂ : List ℕ} {s₁ : Digest} {count : ℕ} (p : Params) (s : Digest) (numbers f a : List ℕ) → Valid p → queriesOffset p ≤ length f
-    → count ≡ ifValid p (finalCount p) → d₁ ≡ put f (8 + 32 * p .k) (le 2 count) → d₂ ≡ sets d₁ (8 + 32 * p .k + 2) (words (take count numbers))
+pub finish-left : {d₁ d₂ : List ℕ} {s₁ : Digest} {count at : ℕ} (p : Params) (s : Digest) (numbers f a : List ℕ) → Valid p → queriesOffset p ≤ length f
+    → count ≡ ifValid p (finalCount p) → at ≡ finalCountOffset p → d₁ ≡ put f at (le 2 count) → d₂ ≡ sets d₁ (at + 2) (words (take count numbers))
     → take count a ≡ take count numbers → s₁ ≡ finish sha256 s (take count a)
     → (s₁ ≡ finish sha256 s (take (finalCount p) numbers))
-    × (d₂ ≡ sets (sets f (8 + 32 * p .k) (le 2 (finalCount p))) (10 + 32 * p .k) (words (take (finalCount p) numbers)))
+    × (d₂ ≡ sets (sets f (finalCountOffset p) (le 2 (finalCount p))) (coefficientOffset p 0) (words (take (finalCount p) numbers)))
 unfolding queriesOffset
-finish-left {d₁} {d₂} {s₁} {count} p s numbers f a v h e e₁ e₂ e₃ e₄ =
+finish-left {d₁} {d₂} {s₁} {count} {at} p s numbers f a v h e e₀ e₁ e₂ e₃ e₄ =
     let full : count ≡ finalCount p = from-valid p (finalCount p) v e in
-    let first : d₁ ≡ sets f (8 + 32 * p .k) (le 2 (finalCount p)) = e₁ ∙ put-fits f (8 + 32 * p .k) (le 2 count) (omega (arith, le-length 2 count)) ∙ ap (λ c. sets f (8 + 32 * p .k) (le 2 c)) full in
-    let there : 8 + 32 * p .k + 2 ≡ 10 + 32 * p .k = omega arith in (
+    let first : d₁ ≡ sets f (finalCountOffset p) (le 2 (finalCount p)) = e₁ ∙ put-fits f at (le 2 count) (omega (arith, le-length 2 count)) ∙ ap₂ (λ i c. sets f i (le 2 c)) e₀ full in
+    let there : at + 2 ≡ coefficientOffset p 0 = omega arith in (
       e₄ ∙ ap (finish sha256 s) (e₃ ∙ ap (λ c. take c numbers) full),
-      e₂ ∙ ap₂ (λ d i. sets d i (words (take count numbers))) first there ∙ ap (λ c. sets (sets f (8 + 32 * p .k) (le 2 (finalCount p))) (10 + 32 * p .k) (words (take c numbers))) full,
+      e₂ ∙ ap₂ (λ d i. sets d i (words (take count numbers))) first there ∙ ap (λ c. sets (sets f (finalCountOffset p) (le 2 (finalCount p))) (coefficientOffset p 0) (words (take c numbers))) full,
     )
 
-pub openings-left : {d₁ d₂ : List ℕ} {at : ℕ} (p : Params) (s : Digest) (numbers bytes f : List ℕ) → Valid p → fileLength p ≤ length f → at ≡ ifValid p (queriesOffset p)
-    → d₁ ≡ put f (at - 2) (le 2 (p .q)) → d₂ ≡ sets d₁ at (queriesIn p sha256 s numbers bytes)
-    → d₂ ≡ sets (sets f (10 + 32 * p .k + 4 * finalCount p) (le 2 (p .q))) (12 + 32 * p .k + 4 * finalCount p) (queriesIn p sha256 s numbers bytes)
+pub openings-left : {d₁ d₂ : List ℕ} {count at : ℕ} (p : Params) (s : Digest) (numbers bytes f : List ℕ) → Valid p → fileLength p ≤ length f
+    → count ≡ ifValid p (queryCountOffset p) → at ≡ ifValid p (queriesOffset p)
+    → d₁ ≡ put f count (le 2 (p .q)) → d₂ ≡ sets d₁ at (queriesIn p sha256 s numbers bytes)
+    → d₂ ≡ sets (sets f (queryCountOffset p) (le 2 (p .q))) (queriesOffset p) (queriesIn p sha256 s numbers bytes)
 unfolding queriesOffset fileLength
-openings-left {d₁} {d₂} {at} p s numbers bytes f v h e e₁ e₂ =
-    let full : at ≡ 12 + 32 * p .k + 4 * finalCount p = from-valid p _ v e in
-    let back : at - 2 ≡ 10 + 32 * p .k + 4 * finalCount p = omega arith in
-    let first : d₁ ≡ sets f (10 + 32 * p .k + 4 * finalCount p) (le 2 (p .q)) =
-    e₁ ∙ put-fits f (at - 2) (le 2 (p .q)) (omega (arith, le-length 2 (p .q))) ∙ ap (λ i. sets f i (le 2 (p .q))) back in
-    e₂ ∙ ap₂ (λ d i. sets d i (queriesIn p sha256 s numbers bytes)) first full
+openings-left {d₁} {d₂} {count} {at} p s numbers bytes f v h e₀ e e₁ e₂ =
+    let there : count ≡ queryCountOffset p = from-valid p _ v e₀ in
+    let first : d₁ ≡ sets f (queryCountOffset p) (le 2 (p .q)) =
+    e₁ ∙ put-fits f count (le 2 (p .q)) (omega (arith, le-length 2 (p .q))) ∙ ap (λ i. sets f i (le 2 (p .q))) there in
+    e₂ ∙ ap₂ (λ d i. sets d i (queriesIn p sha256 s numbers bytes)) first (from-valid p _ v e)
 
 -- The whole: the model's start, its layers and its end are the built file.
 pub file-left : {n₁ n₂ b₁ f₁ f₂ f₃ f₄ : List ℕ} {s₀ s₁ s₂ : Digest} (p : Params) (context c numbers bytes f : List ℕ) → Valid p → length c ≡ 2 ^ (p .n - p .b)
     → 2 * 2 ^ p .n ≤ length numbers → 64 * 2 ^ p .n ≤ length bytes → length f ≡ fileLength p → n₁ ≡ put numbers 0 c
-    → f₁ ≡ sets (sets (sets f 0 (le 2 4)) 2 (header p)) 6 (le 2 (p .k)) → s₀ ≡ start sha256 (header p) context
+    → f₁ ≡ headIn p f → s₀ ≡ start sha256 (header p) context
     → s₁ ≡ allLayered p sha256 (p .k) (work n₁ bytes f₁ s₀) .state → n₂ ≡ allLayered p sha256 (p .k) (work n₁ bytes f₁ s₀) .numbers
     → b₁ ≡ allLayered p sha256 (p .k) (work n₁ bytes f₁ s₀) .bytes → f₂ ≡ allLayered p sha256 (p .k) (work n₁ bytes f₁ s₀) .file
     → s₂ ≡ finish sha256 s₁ (take (finalCount p) n₂)
-    → f₃ ≡ sets (sets f₂ (8 + 32 * p .k) (le 2 (finalCount p))) (10 + 32 * p .k) (words (take (finalCount p) n₂))
-    → f₄ ≡ sets (sets f₃ (10 + 32 * p .k + 4 * finalCount p) (le 2 (p .q))) (12 + 32 * p .k + 4 * finalCount p) (queriesIn p sha256 s₂ n₂ b₁)
+    → f₃ ≡ sets (sets f₂ (finalCountOffset p) (le 2 (finalCount p))) (coefficientOffset p 0) (words (take (finalCount p) n₂))
+    → f₄ ≡ sets (sets f₃ (queryCountOffset p) (le 2 (p .q))) (queriesOffset p) (queriesIn p sha256 s₂ n₂ b₁)
     → f₄ ≡ builtFile sha256 p context c
 unfolding begun ended withFinal
 file-left {n₁} {n₂} {b₁} {f₁} {f₂} {f₃} {f₄} {s₀} {s₁} {s₂} p context c numbers bytes f v full long room size e₁ e₂ e₃ e₄ e₅ e₆ e₇ e₈ e₉ e₁₀ =

@@ -8,6 +8,7 @@ use lib.ListN.{length}
 use lib.Seq.{sets}
 use Rattle.sha256.specs.Sha256.{sha256}
 use Rattle.params.specs.declared.Params.{Params}
+use Rattle.params.specs.Parameters.{rootOffset, finalCountOffset}
 use Rattle.message.specs.Message.{Digest}
 use Rattle.transcript.specs.Transcript.{absorb, challenge}
 use Rattle.buffer.specs.Buffer.{put}
@@ -15,21 +16,22 @@ use Rattle.buffer.proofs.BufferLaws.{put-fits}
 use Rattle.writer_model.specs.Work.{Work, work, withValues, withFold, treeStart, treeIn, rootIn, committed, layered, allLayered}
 
 -- What the calls of one layer leave, one after the other.
-pub layer-left : {n₁ n₂ b₁ f₁ : List ℕ} {s₁ r : Digest} {β : ℕ} (p : Params) (j : ℕ) (n b f : List ℕ) (s : Digest) → j < p .k → 8 + 32 * p .k ≤ length f → length r ≡ 32
-    → n₁ ≡ withValues p j n → r ≡ rootIn p sha256 j n₁ → b₁ ≡ sets b (treeStart p j) (treeIn p sha256 j n₁) → f₁ ≡ put f (8 + 32 * j) r
+pub layer-left : {n₁ n₂ b₁ f₁ : List ℕ} {s₁ r : Digest} {β at : ℕ} (p : Params) (j : ℕ) (n b f : List ℕ) (s : Digest) → j < p .k → finalCountOffset p ≤ length f → length r ≡ 32
+    → n₁ ≡ withValues p j n → r ≡ rootIn p sha256 j n₁ → b₁ ≡ sets b (treeStart p j) (treeIn p sha256 j n₁)
+    → at ≡ rootOffset j → f₁ ≡ put f at r
     → s₁ ≡ absorb sha256 s r → β ≡ challenge sha256 s₁ → n₂ ≡ withFold p j β n₁
     → (s₁ ≡ layered p sha256 j (work n b f s) .state)
     × ((n₂ ≡ layered p sha256 j (work n b f s) .numbers)
     × ((b₁ ≡ layered p sha256 j (work n b f s) .bytes)
     × (f₁ ≡ layered p sha256 j (work n b f s) .file)))
 unfolding layered committed
-layer-left {n₁} {n₂} {b₁} {f₁} {s₁} {r} {β} p j n b f s h fits long e₁ e₂ e₃ e₄ e₅ e₆ e₇ =
+layer-left {n₁} {n₂} {b₁} {f₁} {s₁} {r} {β} {at} p j n b f s h fits long e₁ e₂ e₃ e₀ e₄ e₅ e₆ e₇ =
     let root : r ≡ rootIn p sha256 j (withValues p j n) = e₂ ∙ ap (rootIn p sha256 j) e₁ in
     let state : s₁ ≡ absorb sha256 s (rootIn p sha256 j (withValues p j n)) = e₅ ∙ ap (absorb sha256 s) root in (
       state,
       (
         e₇ ∙ ap₂ (λ x y. withFold p j x y) (e₆ ∙ ap (challenge sha256) state) e₁,
-        (e₃ ∙ ap (λ x. sets b (treeStart p j) (treeIn p sha256 j x)) e₁, e₄ ∙ put-fits f (8 + 32 * j) r (omega arith) ∙ ap (sets f (8 + 32 * j)) root),
+        (e₃ ∙ ap (λ x. sets b (treeStart p j) (treeIn p sha256 j x)) e₁, e₄ ∙ put-fits f at r (omega arith) ∙ ap₂ (sets f) e₀ root),
       ),
     )
 

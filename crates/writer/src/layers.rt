@@ -4,7 +4,7 @@ ghost use Prim.Native.Nat.{_+_, _*_, _^_, _≤_, _<_};
 ghost use lib.ListN.{length};
 ghost use lib.Seq.{sets};
 ghost use Rattle.sha256.specs.Sha256.{sha256};
-ghost use Rattle.params.specs.Parameters.{Valid};
+ghost use Rattle.params.specs.Parameters.{Valid, finalCountOffset};
 ghost use Rattle.writer_model.specs.Work as spec;
 use params::Params;
 use transcript::Transcript;
@@ -55,7 +55,7 @@ fn layer(
     bytes: &mut [u8],
     file: &mut [u8],
 ) -> Transcript
-    requires { ⌜ Valid p × ((layer < p .k) × ((2 * 2 ^ p .n ≤ length (now numbers)) × ((64 * 2 ^ p .n ≤ length (now bytes)) × (8 + 32 * p .k ≤ length (now file))))) ⌝ }
+    requires { ⌜ Valid p × ((layer < p .k) × ((2 * 2 ^ p .n ≤ length (now numbers)) × ((64 * 2 ^ p .n ≤ length (now bytes)) × (finalCountOffset p ≤ length (now file))))) ⌝ }
     ensures { λ r. ⌜ r .state ≡ spec.layered p sha256 layer (spec.work (now (numbers .entry)) (now (bytes .entry)) (now (file .entry)) (s .state)) .state ⌝ }
     ensures { λ _. ⌜ now (numbers .exit) ≡ spec.layered p sha256 layer (spec.work (now (numbers .entry)) (now (bytes .entry)) (now (file .entry)) (s .state)) .numbers ⌝ }
     ensures { λ _. ⌜ now (bytes .exit) ≡ spec.layered p sha256 layer (spec.work (now (numbers .entry)) (now (bytes .entry)) (now (file .entry)) (s .state)) .bytes ⌝ }
@@ -63,7 +63,7 @@ fn layer(
 {
     evaluate(p, layer, numbers);
     let root = commit(p, layer, &numbers[..], bytes);
-    buffer::put(file, 8 + 32 * layer as usize, &root);
+    buffer::put(file, params::root_offset(layer), &root);
     let next = s.absorb_root(root);
     let beta = next.challenge();
     fold(p, layer, beta, numbers);
@@ -78,7 +78,7 @@ pub fn layers(
     bytes: &mut [u8],
     file: &mut [u8],
 ) -> Transcript
-    requires { ⌜ Valid p × ((2 * 2 ^ p .n ≤ length (now numbers)) × ((64 * 2 ^ p .n ≤ length (now bytes)) × (8 + 32 * p .k ≤ length (now file)))) ⌝ }
+    requires { ⌜ Valid p × ((2 * 2 ^ p .n ≤ length (now numbers)) × ((64 * 2 ^ p .n ≤ length (now bytes)) × (finalCountOffset p ≤ length (now file)))) ⌝ }
     ensures { λ r. ⌜ r .state ≡ spec.allLayered p sha256 (p .k) (spec.work (now (numbers .entry)) (now (bytes .entry)) (now (file .entry)) (s .state)) .state ⌝ }
     ensures { λ _. ⌜ now (numbers .exit) ≡ spec.allLayered p sha256 (p .k) (spec.work (now (numbers .entry)) (now (bytes .entry)) (now (file .entry)) (s .state)) .numbers ⌝ }
     ensures { λ _. ⌜ now (bytes .exit) ≡ spec.allLayered p sha256 (p .k) (spec.work (now (numbers .entry)) (now (bytes .entry)) (now (file .entry)) (s .state)) .bytes ⌝ }

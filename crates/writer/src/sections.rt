@@ -5,7 +5,7 @@ ghost use lib.ListN.{length, take};
 ghost use lib.Seq.{sets};
 ghost use Rattle.sha256.specs.Sha256.{sha256};
 ghost use Rattle.message.specs.Bytes.{le, words};
-ghost use Rattle.params.specs.Parameters.{Valid, header, finalCount, queriesOffset, fileLength};
+ghost use Rattle.params.specs.Parameters.{Valid, finalCount, rootOffset, finalCountOffset, coefficientOffset, queryCountOffset, queriesOffset, fileLength};
 ghost use Rattle.transcript.specs.Transcript as transcript;
 ghost use Rattle.built.specs.Built.{builtFile};
 ghost use Rattle.writer_model.specs.Work as spec;
@@ -40,23 +40,23 @@ fn put_final(file: &mut [u8], at: usize, numbers: &[u32], count: usize)
 
 // Section 1, and section 2's count.
 fn head(p: Params, file: &mut [u8])
-    requires { ⌜ 8 ≤ length (now file) ⌝ }
-    ensures { λ _. ⌜ now (file .exit) ≡ sets (sets (sets (now (file .entry)) 0 (le 2 4)) 2 (header p)) 6 (le 2 (p .k)) ⌝ }
+    requires { ⌜ rootOffset 0 ≤ length (now file) ⌝ }
+    ensures { λ _. ⌜ now (file .exit) ≡ spec.headIn p (now (file .entry)) ⌝ }
 {
     let bytes = params::header(p);
-    buffer::put_count(file, 0, 4);
+    buffer::put_count(file, 0, params::HEADER_SIZE);
     buffer::put(file, 2, &bytes);
-    buffer::put_count(file, 6, p.k as usize);
+    buffer::put_count(file, params::ROOT_COUNT_OFFSET, p.k as usize);
 }
 
 // Section 3: the final coefficients, and the transcript that has absorbed them.
 fn finish(p: Params, s: Transcript, numbers: &[u32], file: &mut [u8]) -> Transcript
     requires { ⌜ Valid p × ((finalCount p ≤ length (now numbers)) × (queriesOffset p ≤ length (now file))) ⌝ }
     ensures { λ r. ⌜ r .state ≡ transcript.finish sha256 (s .state) (take (finalCount p) (now (numbers .entry))) ⌝ }
-    ensures { λ _. ⌜ now (file .exit) ≡ sets (sets (now (file .entry)) (8 + 32 * p .k) (le 2 (finalCount p))) (10 + 32 * p .k) (words (take (finalCount p) (now (numbers .entry)))) ⌝ }
+    ensures { λ _. ⌜ now (file .exit) ≡ sets (sets (now (file .entry)) (finalCountOffset p) (le 2 (finalCount p))) (coefficientOffset p 0) (words (take (finalCount p) (now (numbers .entry)))) ⌝ }
 {
     let count = params::final_count(p);
-    let at = 8 + 32 * p.k as usize;
+    let at = params::root_offset(p.k);
     buffer::put_count(file, at, count);
     put_final(file, at + 2, numbers, count);
     s.absorb_final(final_of(numbers, count), count)
@@ -65,10 +65,10 @@ fn finish(p: Params, s: Transcript, numbers: &[u32], file: &mut [u8]) -> Transcr
 // Section 4: the openings of the queries that the transcript draws.
 fn openings(p: Params, s: Transcript, numbers: &[u32], bytes: &[u8], file: &mut [u8])
     requires { ⌜ Valid p × ((2 * 2 ^ p .n ≤ length (now numbers)) × ((64 * 2 ^ p .n ≤ length (now bytes)) × (fileLength p ≤ length (now file)))) ⌝ }
-    ensures { λ _. ⌜ now (file .exit) ≡ sets (sets (now (file .entry)) (10 + 32 * p .k + 4 * finalCount p) (le 2 (p .q))) (12 + 32 * p .k + 4 * finalCount p) (spec.queriesIn p sha256 (s .state) (now (numbers .entry)) (now (bytes .entry))) ⌝ }
+    ensures { λ _. ⌜ now (file .exit) ≡ sets (sets (now (file .entry)) (queryCountOffset p) (le 2 (p .q))) (queriesOffset p) (spec.queriesIn p sha256 (s .state) (now (numbers .entry)) (now (bytes .entry))) ⌝ }
 {
+    buffer::put_count(file, params::query_count_offset(p), p.q as usize);
     let at = params::queries_offset(p);
-    buffer::put_count(file, at - 2, p.q as usize);
     crate::queries::queries(p, s, numbers, bytes, file, at);
 }
 

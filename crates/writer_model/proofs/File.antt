@@ -6,7 +6,7 @@ use native.Mathlib.Omega.{arith}
 use lib.ListN.{length, getD}
 use lib.Seq.{sets}
 use Rattle.params.specs.declared.Params.{Params}
-use Rattle.params.specs.Parameters.{Valid, header, finalCount, fileLength}
+use Rattle.params.specs.Parameters.{Valid, headerSize, header, finalCount, rootCountOffset, rootOffset, finalCountOffset, coefficientOffset, queryCountOffset, queriesOffset, fileLength}
 use Rattle.message.specs.Bytes.{le, joined, words}
 use Rattle.message.specs.Message.{Digest}
 use Rattle.message.proofs.Bytes.{le-length, sized, joined-length}
@@ -17,22 +17,24 @@ use Rattle.fri.proofs.Exactly.{accepted-place, accepted-verdict}
 use Rattle.built.specs.Built.{build, builtFile}
 use Rattle.built.proofs.Built.{built-holds}
 use Rattle.built.proofs.BuiltLayout.{built-layout}
-use Rattle.writer_model.specs.Work.{Work, withFinal, ended}
+use Rattle.writer_model.specs.Work.{Work, headIn, withFinal, ended}
 use Rattle.writer_model.proofs.Stands.{Stands}
 use Rattle.writer_model.proofs.Opened.{final-built, queries-built}
 
 -- Eight parts one after the other: the file's count, header, roots, final coefficients and openings, each list after its count.
-parts-joined : (d a h k r c g q z : List ℕ) (K F : ℕ) → length a ≡ 2 → length h ≡ 4 → length k ≡ 2 → length r ≡ 32 * K → length c ≡ 2 → length g ≡ 4 * F
-    → length q ≡ 2
-    → sets (sets (sets (sets (sets (sets (sets (sets d 0 a) 2 h) 6 k) 8 r) (8 + 32 * K) c) (10 + 32 * K) g) (10 + 32 * K + 4 * F) q) (12 + 32 * K + 4 * F) z
+parts-joined : (p : Params) (d a h k r c g q z : List ℕ) → length a ≡ 2 → length h ≡ headerSize → length k ≡ 2 → length r ≡ 32 * p .k → length c ≡ 2
+    → length g ≡ 4 * finalCount p → length q ≡ 2
+    → sets (sets (sets (sets (sets (sets (sets (sets d 0 a) 2 h) rootCountOffset k) (rootOffset 0) r) (finalCountOffset p) c) (coefficientOffset p 0) g)
+    (queryCountOffset p) q) (queriesOffset p) z
     ≡ sets d 0 (a ++ (h ++ (k ++ (r ++ (c ++ (g ++ (q ++ z)))))))
-parts-joined d a h k r c g q z K F two four layers roots count final queries =
-    sets-behind _ q z (10 + 32 * K + 4 * F) (12 + 32 * K + 4 * F) (omega arith)
-    ∙ sets-behind _ g _ (10 + 32 * K) (10 + 32 * K + 4 * F) (omega arith)
-    ∙ sets-behind _ c _ (8 + 32 * K) (10 + 32 * K) (omega arith)
-    ∙ sets-behind _ r _ 8 (8 + 32 * K) (omega arith)
-    ∙ sets-behind _ k _ 6 8 (omega arith)
-    ∙ sets-behind _ h _ 2 6 (omega arith)
+unfolding queriesOffset
+parts-joined p d a h k r c g q z two four layers roots count final queries =
+    sets-behind _ q z (queryCountOffset p) (queriesOffset p) (omega arith)
+    ∙ sets-behind _ g _ (coefficientOffset p 0) (queryCountOffset p) (omega arith)
+    ∙ sets-behind _ c _ (finalCountOffset p) (coefficientOffset p 0) (omega arith)
+    ∙ sets-behind _ r _ (rootOffset 0) (finalCountOffset p) (omega arith)
+    ∙ sets-behind _ k _ rootCountOffset (rootOffset 0) (omega arith)
+    ∙ sets-behind _ h _ 2 rootCountOffset (omega arith)
     ∙ sets-behind d a _ 0 2 (omega arith)
 
 module _
@@ -60,13 +62,13 @@ module _
 
   -- The file from the start on: all parts, and no byte more.
   pub file-built : (file : List ℕ) → Valid p → length f ≡ 2 ^ (p .n - p .b) → length file ≡ fileLength p → (w : Work)
-      → Stands hash p context f (sets (sets (sets file 0 (le 2 4)) 2 (header p)) 6 (le 2 (p .k))) (p .k) w
+      → Stands hash p context f (headIn p file) (p .k) w
       → ended p hash w ≡ builtFile hash p context f
   unfolding ended withFinal build builtFile encode
   file-built file v full long w stands =
       let layout = built-layout hash size below p context f v (omega arith) in
       rw (queries-built hash size p context f _ v w stands, final-built hash size p context f _ v w stands, stands .roots-in)
-      (parts-joined file (le 2 4) (header p) (le 2 (p .k)) (joined (proof .roots)) (le 2 (finalCount p)) (words (proof .final)) (le 2 (p .q))
-      (joined (map queryBytes (proof .queries))) (p .k) (finalCount p)
-      (le-length 2 4) refl (le-length 2 (p .k)) (roots-length layout) (le-length 2 (finalCount p)) (final-length layout) (le-length 2 (p .q))
+      (parts-joined p file (le 2 headerSize) (header p) (le 2 (p .k)) (joined (proof .roots)) (le 2 (finalCount p)) (words (proof .final)) (le 2 (p .q))
+      (joined (map queryBytes (proof .queries)))
+      (le-length 2 headerSize) refl (le-length 2 (p .k)) (roots-length layout) (le-length 2 (finalCount p)) (final-length layout) (le-length 2 (p .q))
       ∙ sets-all file (builtFile hash p context f) (built-length v (omega arith) ∙ sym long))

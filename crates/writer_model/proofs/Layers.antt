@@ -11,7 +11,7 @@ use lib.ListN.{length, getD, replicate}
 use lib.Pow.{pow-mono}
 use lib.Seq.{sets, length-sets}
 use Rattle.params.specs.declared.Params.{Params}
-use Rattle.params.specs.Parameters.{Valid, height}
+use Rattle.params.specs.Parameters.{Valid, height, rootOffset}
 use Rattle.message.specs.Bytes.{joined, part}
 use Rattle.message.specs.Message.{Digest}
 use Rattle.message.proofs.Bytes.{Sized}
@@ -199,10 +199,10 @@ module _ (hash : List ℕ → Digest) (size : (xs : List ℕ) → length (hash x
   layer = layerAt hash p context f
 
   -- The first roots of the file, and one root more.
-  root-more : (j : ℕ) → sets (sets file 8 (joined (tabulate j (builtRoot hash p context f)))) (8 + 32 * j) (builtRoot hash p context f j)
-      ≡ sets file 8 (joined (tabulate (suc j) (builtRoot hash p context f)))
+  root-more : (j : ℕ) → sets (sets file (rootOffset 0) (joined (tabulate j (builtRoot hash p context f)))) (rootOffset j) (builtRoot hash p context f j)
+      ≡ sets file (rootOffset 0) (joined (tabulate (suc j) (builtRoot hash p context f)))
   unfolding builtRoot
-  root-more j = blocks-more file 8 j (builtRoot hash p context f) (λ i. commit-length hash p (layer i .poly) i size)
+  root-more j = blocks-more file (rootOffset 0) j (builtRoot hash p context f) (λ i. commit-length hash p (layer i .poly) i size)
 
   -- One layer done on buffers that stand.
   pub layer-stands : Valid p → length f ≤ 2 ^ (p .n - p .b) → (j : ℕ) (w : Work) → j < p .k
@@ -221,7 +221,7 @@ module _ (hash : List ℕ → Digest) (size : (xs : List ℕ) → length (hash x
         tree-in = one-more (λ k. part (treeStart p k) (treeSize (height p k)) next-bytes ≡ rows hash (height p k) (leaves hash p (layer k .poly) k)) j
             (λ k m. old-part p v j h (w .bytes) tree fits k m ∙ s .tree-in k m)
             (new-part p v j h (w .bytes) tree fits room ∙ same);
-        roots-in = ap₂ (λ bs r. sets bs (8 + 32 * j) r) (s .roots-in) root ∙ root-more j;
+        roots-in = ap₂ (λ bs r. sets bs (rootOffset j) r) (s .roots-in) root ∙ root-more j;
       }
     where
       g : List ℕ

@@ -3,7 +3,7 @@ use Prim.Native.Nat.{ℕ, _<_}
 use mathlib.Core.List.{List}
 use mathlib.Core.Path.{_≡_}
 use Rattle.params.specs.declared.Params.{Params}
-use Rattle.params.specs.Parameters.{height}
+use Rattle.params.specs.Parameters.{height, rootOffset}
 use Rattle.message.specs.Bytes.{joined, part}
 use Rattle.message.specs.Message.{Digest}
 use Rattle.fri.specs.Encoding.{tabulate}
@@ -18,4 +18,4 @@ pub record Stands (hash : List ℕ → Digest) (p : Params) (context f file : Li
   pub state : w .state ≡ layerAt hash p context f j .state
   pub values-in : (i : ℕ) → i < j → valuesIn p i (w .numbers) ≡ values (p .n) i (layerAt hash p context f i .poly)
   pub tree-in : (i : ℕ) → i < j → part (treeStart p i) (treeSize (height p i)) (w .bytes) ≡ rows hash (height p i) (leaves hash p (layerAt hash p context f i .poly) i)
-  pub roots-in : w .file ≡ sets file 8 (joined (tabulate j (builtRoot hash p context f)))
+  pub roots-in : w .file ≡ sets file (rootOffset 0) (joined (tabulate j (builtRoot hash p context f)))

@@ -5,7 +5,7 @@ use mathlib.Core.List.{List, _++_}
 use lib.ListN.{take, getD}
 use lib.Seq.{sets}
 use Rattle.params.specs.declared.Params.{Params}
-use Rattle.params.specs.Parameters.{header, height, indexBits, finalCount}
+use Rattle.params.specs.Parameters.{headerSize, header, height, indexBits, finalCount, rootCountOffset, rootOffset, finalCountOffset, coefficientOffset, queryCountOffset, queriesOffset}
 use Rattle.message.specs.Bytes.{le, joined, part, words}
 use Rattle.message.specs.Message.{Digest}
 use Rattle.domain.specs.Domain.{half}
@@ -55,6 +55,10 @@ module _ (p : Params) where
   unfoldable pub queryIn : ℕ → List ℕ → List ℕ → List ℕ
   queryIn m numbers bytes = joined (tabulate (p .k) (λ j. openingIn j (m % half (p .n) j) numbers bytes))
 
+  -- The file with section 1 and section 2's count.
+  abbrev pub headIn : List ℕ → List ℕ
+  headIn file = sets (sets (sets file 0 (le 2 headerSize)) 2 (header p)) rootCountOffset (le 2 (p .k))
+
   module _ (hash : List ℕ → Digest) where
     -- Layer j's tree and root over its values.
     unfoldable pub treeIn : ℕ → List ℕ → List ℕ
@@ -72,7 +76,7 @@ module _ (p : Params) where
         record {
           numbers = withValues j (w .numbers);
           bytes = sets (w .bytes) (treeStart j) (treeIn j (withValues j (w .numbers)));
-          file = sets (w .file) (8 + 32 * j) (rootIn j (withValues j (w .numbers)));
+          file = sets (w .file) (rootOffset j) (rootIn j (withValues j (w .numbers)));
           state = absorb hash (w .state) (rootIn j (withValues j (w .numbers)));
         }
 
@@ -96,7 +100,7 @@ module _ (p : Params) where
         record {
           numbers = sets numbers 0 f;
           bytes = bytes;
-          file = sets (sets (sets file 0 (le 2 4)) 2 (header p)) 6 (le 2 (p .k));
+          file = headIn file;
           state = start hash (header p) context;
         }
 
@@ -105,9 +109,9 @@ module _ (p : Params) where
     finalIn w = take (finalCount p) (w .numbers)
 
     unfoldable pub withFinal : Work → List ℕ
-    withFinal w = sets (sets (w .file) (8 + 32 * p .k) (le 2 (finalCount p))) (10 + 32 * p .k) (words (finalIn w))
+    withFinal w = sets (sets (w .file) (finalCountOffset p) (le 2 (finalCount p))) (coefficientOffset p 0) (words (finalIn w))
 
     unfoldable pub ended : Work → List ℕ
     ended w =
-        sets (sets (withFinal w) (10 + 32 * p .k + 4 * finalCount p) (le 2 (p .q))) (12 + 32 * p .k + 4 * finalCount p)
+        sets (sets (withFinal w) (queryCountOffset p) (le 2 (p .q))) (queriesOffset p)
         (queriesIn (finish hash (w .state) (finalIn w)) (w .numbers) (w .bytes))

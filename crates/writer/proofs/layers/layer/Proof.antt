@@ -12,11 +12,8 @@ evaluate-requires c κs = search needs
 commit-requires : tie.Need-commit-requires
 commit-requires c κs = search needs
 
-mul-put : tie.Need-mul-put
-mul-put c = search needs
-
-add-put : tie.Need-add-put
-add-put c = search needs
+root-offset-requires : tie.Need-root-offset-requires
+root-offset-requires c κs = search needs
 
 slice-aggregate-put : tie.Need-slice-aggregate-put
 slice-aggregate-put c = search needs
@@ -44,9 +41,9 @@ same-length-3 c = search needs
 
 returns : tie.Need-returns
 returns c =
-    let a = c .before .before .before .before .before .before .before .before .before .before .before .before .before .before .before .before .before .before .before .before .before .before .before .args in
-    let m = c .before .before .before .before .before .before .before .before .before .before .before .before .before .commit .ensures in
-    layer-left (a .p) (a .layer) (now (a .numbers)) (now (a .bytes)) (now (a .file)) (a .s .state) (search needs) (c .before .before .before .before .before .before .before .before .before .before .before .before .before .before .before .before .before .before .before .before .before .before .before .pre .1 .1 .1 .1) (search needs) (c .before .before .before .before .before .before .before .before .before .before .before .before .before .before .before .before .before .before .evaluate .ensures) (m .0) (m .1) (c .before .before .before .before .before .before .before .before .put .ensures) (c .before .before .before .before .before .absorb-root .ensures) (c .before .before .before .before .challenge .ensures) (c .before .before .fold .ensures)
+    let a = c .before .before .before .before .before .before .before .before .before .before .before .before .before .before .before .before .before .before .before .before .before .before .before .before .args in
+    let m = c .before .before .before .before .before .before .before .before .before .before .before .before .before .before .commit .ensures in
+    layer-left (a .p) (a .layer) (now (a .numbers)) (now (a .bytes)) (now (a .file)) (a .s .state) (c .before .before .before .before .before .before .before .before .before .before .before .before .before .before .before .before .before .before .before .before .before .before .before .before .pre .1 .0) (c .before .before .before .before .before .before .before .before .before .before .before .before .before .before .before .before .before .before .before .before .before .before .before .before .pre .1 .1 .1 .1) (search needs) (c .before .before .before .before .before .before .before .before .before .before .before .before .before .before .before .before .before .before .before .evaluate .ensures) (m .0) (m .1) (c .before .before .before .before .before .before .before .before .before .before .root-offset .ensures) (c .before .before .before .before .before .before .before .before .put .ensures) (c .before .before .before .before .before .absorb-root .ensures) (c .before .before .before .before .challenge .ensures) (c .before .before .fold .ensures)
 
 pub layer-spec : {M : Type 1} → statement M
 layer-spec =
@@ -54,8 +51,7 @@ layer-spec =
     (tie.spec
     evaluate-requires
     commit-requires
-    mul-put
-    add-put
+    root-offset-requires
     slice-aggregate-put
     put-requires
     absorb-root-requires

@@ -12,14 +12,8 @@ use Rattle.writer.proofs.sections.finish.Tie as tie
 final-count-requires : tie.Need-final-count-requires
 final-count-requires c κs = search needs
 
-cast-at : tie.Need-cast-at
-cast-at c = search needs
-
-mul-at : tie.Need-mul-at
-mul-at c = search needs
-
-add-at : tie.Need-add-at
-add-at c = search needs
+root-offset-requires : tie.Need-root-offset-requires
+root-offset-requires c κs = search needs
 
 put-count-requires : tie.Need-put-count-requires
 put-count-requires c κs = search needs
@@ -49,16 +43,14 @@ same-length c = search needs
 returns : tie.Need-returns
 returns c =
     let a = c .before .before .before .before .before .before .before .before .before .before .before .before .before .before .args in
-    finish-left (a .p) (a .s .state) (now (a .numbers)) (now (a .file)) _ (search needs) (search needs) (c .before .before .before .before .before .before .before .before .before .before .before .final-count .ensures) (c .before .before .before .before .before .before .before .before .put-count .ensures) (c .before .before .before .before .put-final .ensures) (c .before .final-of .ensures) (c .absorb-final .ensures)
+    finish-left (a .p) (a .s .state) (now (a .numbers)) (now (a .file)) _ (search needs) (search needs) (c .before .before .before .before .before .before .before .before .before .before .before .final-count .ensures) (c .before .before .before .before .before .before .before .before .before .before .root-offset .ensures) (c .before .before .before .before .before .before .before .before .put-count .ensures) (c .before .before .before .before .put-final .ensures) (c .before .final-of .ensures) (c .absorb-final .ensures)
 
 pub finish-spec : {M : Type 1} → statement M
 finish-spec =
     tie.close
     (tie.spec
     final-count-requires
-    cast-at
-    mul-at
-    add-at
+    root-offset-requires
     put-count-requires
     add-put-final
     put-final-requires
