@@ -66,8 +66,8 @@ struct phieulakhon_params {
 /* A reader, about 1 KiB of plain numbers that the caller keeps wherever it likes. Its fields are for the calls only. A reader of zeros answers 0 at 0
  * to every call. */
 struct phieulakhon_reader {
-    uint8_t marks[9];
-    uint32_t words[7];
+    uint8_t marks[10];
+    uint32_t words[10];
     size_t counts[2];
     uint8_t item[32], node[32], transcript[32], roots[512];
     uint32_t challenges[16], coefficients[64];
@@ -88,13 +88,13 @@ size_t phieulakhon_file_length(struct phieulakhon_params p);
 
 /* The proved calls of a reader, on its arrays, which they change in place. The three calls below them take a reader whole, and are all that a C
  * program needs. */
-struct phieulakhon_answer phieulakhon_open(struct phieulakhon_params p, const uint8_t context[32], uint8_t marks[9], uint32_t words[7], size_t counts[2],
+struct phieulakhon_answer phieulakhon_open(struct phieulakhon_params p, const uint8_t context[32], uint8_t marks[10], uint32_t words[10], size_t counts[2],
                                            uint8_t item[32], uint8_t node[32], uint8_t transcript[32], uint8_t roots[512], uint32_t challenges[16],
                                            uint32_t coefficients[64]);
-struct phieulakhon_answer phieulakhon_piece(uint8_t marks[9], uint32_t words[7], size_t counts[2], uint8_t item[32], const uint8_t *bytes, size_t length,
+struct phieulakhon_answer phieulakhon_piece(uint8_t marks[10], uint32_t words[10], size_t counts[2], uint8_t item[32], const uint8_t *bytes, size_t length,
                                             uint8_t node[32], uint8_t transcript[32], uint8_t roots[512], uint32_t challenges[16],
                                             uint32_t coefficients[64]);
-struct phieulakhon_answer phieulakhon_end(uint8_t marks[9], uint32_t words[7], size_t counts[2], uint8_t item[32], uint8_t node[32],
+struct phieulakhon_answer phieulakhon_end(uint8_t marks[10], uint32_t words[10], size_t counts[2], uint8_t item[32], uint8_t node[32],
                                           uint8_t transcript[32], uint8_t roots[512], uint32_t challenges[16], uint32_t coefficients[64]);
 
 /* Opens a reader, whatever was in its memory: 0 at 0, or 10 at 0 where the parameters are not valid, and then the reader is closed. */

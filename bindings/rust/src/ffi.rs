@@ -19,8 +19,8 @@ pub struct Answer {
 #[repr(C)]
 #[derive(Clone)]
 pub struct Held {
-    marks: [u8; 9],
-    words: [u32; 7],
+    marks: [u8; 10],
+    words: [u32; 10],
     counts: [usize; 2],
     item: [u8; 32],
     node: [u8; 32],
@@ -49,8 +49,8 @@ extern "C" {
     fn phieulakhon_open(
         p: Params,
         context: *const [u8; 32],
-        marks: *mut [u8; 9],
-        words: *mut [u32; 7],
+        marks: *mut [u8; 10],
+        words: *mut [u32; 10],
         counts: *mut [usize; 2],
         item: *mut [u8; 32],
         node: *mut [u8; 32],
@@ -60,8 +60,8 @@ extern "C" {
         coefficients: *mut [u32; 64],
     ) -> Answer;
     fn phieulakhon_piece(
-        marks: *mut [u8; 9],
-        words: *mut [u32; 7],
+        marks: *mut [u8; 10],
+        words: *mut [u32; 10],
         counts: *mut [usize; 2],
         item: *mut [u8; 32],
         bytes: *const u8,
@@ -73,8 +73,8 @@ extern "C" {
         coefficients: *mut [u32; 64],
     ) -> Answer;
     fn phieulakhon_end(
-        marks: *mut [u8; 9],
-        words: *mut [u32; 7],
+        marks: *mut [u8; 10],
+        words: *mut [u32; 10],
         counts: *mut [usize; 2],
         item: *mut [u8; 32],
         node: *mut [u8; 32],
@@ -111,8 +111,8 @@ pub fn file_length(p: Params) -> usize {
 
 pub fn open(p: Params, context: &[u8; 32]) -> (Answer, Held) {
     let mut held = Held {
-        marks: [0; 9],
-        words: [0; 7],
+        marks: [0; 10],
+        words: [0; 10],
         counts: [0; 2],
         item: [0; 32],
         node: [0; 32],
@@ -257,7 +257,7 @@ mod tests {
             if turn % 3 > 0 {
                 // A stage that there is, and a fill and a cursor near the bounds of those that a
                 // call leaves.
-                h.marks[0] = (random(seed) % 13) as u8;
+                h.marks[0] = (random(seed) % 12) as u8;
                 h.counts[0] = (random(seed) % 34) as usize;
                 h.counts[1] = (random(seed) % 66) as usize;
                 h.words[0] = if turn % 3 == 1 {
@@ -267,7 +267,8 @@ mod tests {
                 };
                 h.marks[5] %= 130;
                 h.marks[6] %= 17;
-                h.marks[7] %= 33;
+                h.marks[7] %= 5;
+                h.marks[8] %= 33;
             }
             all_calls_return(h, &bytes[..random(seed) as usize % 200]);
         }

@@ -1,27 +1,28 @@
 -- The built proof has the published layout: its roots and siblings are digests, its values and coefficients are below the modulus, and there
 -- are as many of each as the parameters say. Assumes nothing.
-use Prim.Native.Nat.{ℕ, _^_, _-_, _%_, _<_, _≤_}
+use Prim.Native.Nat.{ℕ, _+_, _*_, _^_, _-_, _%_, _<_, _≤_}
 use mathlib.Core.List.{List, []}
 use mathlib.Core.Path.{_≡_, ap, _∙_}
 use native.Mathlib.Omega.{arith}
 use lib.ListN.{length, getD}
 use Rattle.message.specs.Message.{Digest}
 use Rattle.params.specs.declared.Params.{Params}
-use Rattle.params.specs.Parameters.{Valid, height, finalCount}
-use Rattle.domain.specs.Domain.{half}
-use Rattle.domain.proofs.Index.{mod-half}
+use Rattle.params.specs.Parameters.{Valid, depth, valuesPerLeaf, height, leafCount, finalCount}
+use Rattle.params.proofs.LeafLaws.{leaf-lt}
+use Rattle.domain.specs.Domain.{point}
 use Rattle.merkle.specs.Merkle.{leaf}
 use Rattle.merkle.proofs.Opens.{path-length, root-all, path-all}
+use Rattle.fold.specs.Poly.{eval}
 use Rattle.fold.proofs.PolyLaws.{below-at}
 use Rattle.fold.proofs.FoldCheck.{eval-lt}
 use Rattle.fri.specs.Encoding.{IsDigest, IsOpening, HasLayout, openingAt, noOpening}
-use Rattle.built.specs.Built.{leafOf, leaves, commit, builtRoot, builtLeaf, layerAt, openingOf, build}
+use Rattle.built.specs.Built.{leafValues, leafOf, leaves, commit, builtRoot, builtLeaf, layerAt, openingOf, build}
 use Rattle.fri.proofs.Tabulate.{tabulate-length, tabulate-at}
 use Rattle.built.proofs.Layers.{leaves-length, layer-length, layer-below}
 
 -- Query i opens its leaf in layer j.
 pub built-opening : (hash : List ℕ → Digest) (p : Params) (context f : List ℕ) (i j : ℕ) → i < p .q → j < p .k
-    → openingAt (build hash p context f) i j ≡ openingOf hash p context f j (builtLeaf hash p context f i % half (p .n) j)
+    → openingAt (build hash p context f) i j ≡ openingOf hash p context f j (builtLeaf hash p context f i % leafCount p j)
 unfolding build
 built-opening hash p context f i j h l =
     ap (λ os. getD os j noOpening) (tabulate-at (p .q) _ i [] h) ∙ tabulate-at (p .k) _ j noOpening l
@@ -38,21 +39,21 @@ module _
   leaf-digest : (f : List ℕ) (j m : ℕ) → m < length (leaves hash p f j) → IsDigest (getD (leaves hash p f j) m [])
   unfolding leaves leafOf leaf
   leaf-digest f j m h =
-      let inside : m < half (p .n) j = omega (arith, tabulate-length (half (p .n) j) (leafOf hash p f j)) in
-      rw (tabulate-at (half (p .n) j) (leafOf hash p f j) m [] inside) (hash-digest _)
+      let inside : m < leafCount p j = omega (arith, tabulate-length (leafCount p j) (leafOf hash p f j)) in
+      rw (tabulate-at (leafCount p j) (leafOf hash p f j) m [] inside) (hash-digest _)
 
   commit-digest : (f : List ℕ) (j : ℕ) → IsDigest (commit hash p f j)
   unfolding commit
   commit-digest f j = root-all hash IsDigest hash-digest (height p j) (leaves hash p f j) (leaves-length hash p f j) (leaf-digest f j)
 
   module _ (context f : List ℕ) where
-    opening-layout : (j m : ℕ) → m < half (p .n) j → IsOpening p j (openingOf hash p context f j m)
-    unfolding openingOf half
+    opening-layout : (j m : ℕ) → m < leafCount p j → IsOpening p j (openingOf hash p context f j m)
+    unfolding openingOf leafValues
     opening-layout j m h =
         let g : List ℕ = layerAt hash p context f j .poly in
         record {
-          first-below = eval-lt _ _;
-          second-below = eval-lt _ _;
+          value-count = tabulate-length (valuesPerLeaf p) _;
+          value-below = λ r l. rw (tabulate-at (valuesPerLeaf p) (λ r. eval g (point (p .n) (depth p j) (m + r * leafCount p j))) r 0 l) (eval-lt _ _);
           sibling-count = path-length hash (height p j) (leaves hash p g j) m;
           sibling = path-all hash IsDigest hash-digest (height p j) (leaves hash p g j) m (leaves-length hash p g j) h (leaf-digest g j);
         }
@@ -67,5 +68,5 @@ module _
           final-below = λ i h. below-at (layer-below hash p context f (p .k) (v .k-low)) i;
           query-count = tabulate-length _ _;
           layer-count = λ i h. ap length (tabulate-at (p .q) _ i [] h) ∙ tabulate-length _ _;
-          opening-form = λ i j h l. rw (built-opening hash p context f i j h l) (opening-layout j _ (mod-half (p .n) j _));
+          opening-form = λ i j h l. rw (built-opening hash p context f i j h l) (opening-layout j _ (leaf-lt p j _));
         }

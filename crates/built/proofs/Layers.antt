@@ -1,6 +1,6 @@
 -- The layers of the built proof: the sizes of their polynomials, and the transcript before each. Assumes nothing.
-use Prim.Native.Nat.{ℕ, zero, suc, _^_, _-_, _≤_}
-use mathlib.Core.List.{List, []}
+use Prim.Native.Nat.{ℕ, zero, suc, _+_, _*_, _^_, _-_, _≤_}
+use mathlib.Core.List.{List, [], _∷_}
 use mathlib.Core.Path.{_≡_, refl, ap, ap₂, _∙_}
 use native.Mathlib.Nat.{pow-succ'}
 use native.Mathlib.Omega.{arith}
@@ -8,13 +8,13 @@ use lib.ListN.{length, take, length-append, length-replicate}
 use lib.Seq.{take-suc}
 use Rattle.message.specs.Message.{Digest}
 use Rattle.params.specs.declared.Params.{Params}
-use Rattle.params.specs.Parameters.{header, height}
-use Rattle.domain.specs.Domain.{half}
+use Rattle.params.specs.Parameters.{header, depth, height, leafCount}
 use Rattle.transcript.specs.Transcript.{start, absorb, absorbed}
 use Rattle.transcript.proofs.TranscriptLaws.{absorbed-snoc}
-use Rattle.fold.specs.Poly.{Below}
+use Rattle.domain.specs.Domain.{point}
+use Rattle.fold.specs.Poly.{Below, eval}
 use Rattle.fold.proofs.FoldCheck.{fold-length, fold-below}
-use Rattle.built.specs.Built.{padded, leaves, nextLayer, layerAt, builtRoot}
+use Rattle.built.specs.Built.{padded, leafValues, leaves, nextLayer, layerAt, builtRoot}
 use Rattle.fri.specs.Encoding.{tabulate}
 use Rattle.fri.proofs.Tabulate.{tabulate-length, tabulate-at}
 
@@ -23,8 +23,17 @@ unfolding padded
 padded-length size f h = simp (length-append, length-replicate) (omega arith)
 
 pub leaves-length : (hash : List ℕ → Digest) (p : Params) (f : List ℕ) (j : ℕ) → length (leaves hash p f j) ≡ 2 ^ height p j
-unfolding leaves half
+unfolding leaves
 leaves-length hash p f j = tabulate-length _ _
+
+-- A leaf's values, written out.
+pub leaf-two : (p : Params) (f : List ℕ) (j m : ℕ)
+    → leafValues p f j m ≡ eval f (point (p .n) (depth p j) m) ∷ eval f (point (p .n) (depth p j) (m + leafCount p j)) ∷ []
+unfolding leafValues tabulate
+leaf-two p f j m =
+    let none : m + 0 * leafCount p j ≡ m = omega arith in
+    let one : m + 1 * leafCount p j ≡ m + leafCount p j = omega arith in
+    rw (none, one)
 
 module _ (hash : List ℕ → Digest) (p : Params) (context f : List ℕ) where
   -- Each fold halves the number of coefficients.

@@ -1,12 +1,12 @@
 -- The proof built from a polynomial (document 01, "The fold"): each layer is its polynomial's values, the next polynomial is the fold, and
 -- section 3 is the last one.
-use Prim.Native.Nat.{ℕ, zero, suc, _+_, _-_, _%_, _^_}
-use mathlib.Core.List.{List, [], _∷_, _++_}
+use Prim.Native.Nat.{ℕ, zero, suc, _+_, _*_, _-_, _%_, _^_}
+use mathlib.Core.List.{List, _++_}
 use lib.ListN.{length, replicate}
 use Rattle.params.specs.declared.Params.{Params}
-use Rattle.params.specs.Parameters.{header, height, indexBits}
+use Rattle.params.specs.Parameters.{header, depth, valuesPerLeaf, height, leafCount, indexBits}
 use Rattle.message.specs.Message.{Digest}
-use Rattle.domain.specs.Domain.{half, point}
+use Rattle.domain.specs.Domain.{point}
 use Rattle.merkle.specs.Merkle.{rootOf, path, leaf}
 use Rattle.transcript.specs.Transcript.{start, absorb, challenge, finish, drawn}
 use Rattle.fold.specs.Poly.{eval, fold}
@@ -21,13 +21,17 @@ pub record Layer : Type 0 where
   pub poly : List ℕ
   pub state : Digest
 
+-- The values of the polynomial f in leaf m of layer j.
+unfoldable pub leafValues : Params → List ℕ → ℕ → ℕ → List ℕ
+leafValues p f j m = tabulate (valuesPerLeaf p) (λ r. eval f (point (p .n) (depth p j) (m + r * leafCount p j)))
+
 module _ (hash : List ℕ → Digest) (p : Params) where
   -- The digest of leaf m of layer j of the polynomial f, all of them, and their root.
   unfoldable pub leafOf : List ℕ → ℕ → ℕ → Digest
-  leafOf f j m = leaf hash (eval f (point (p .n) j m) ∷ eval f (point (p .n) j (m + half (p .n) j)) ∷ [])
+  leafOf f j m = leaf hash (leafValues p f j m)
 
   unfoldable pub leaves : List ℕ → ℕ → List Digest
-  leaves f j = tabulate (half (p .n) j) (leafOf f j)
+  leaves f j = tabulate (leafCount p j) (leafOf f j)
 
   unfoldable pub commit : List ℕ → ℕ → Digest
   commit f j = rootOf hash (height p j) (leaves f j)
@@ -57,8 +61,7 @@ module _ (hash : List ℕ → Digest) (p : Params) where
     unfoldable pub openingOf : ℕ → ℕ → Opening
     openingOf j m =
         record {
-          first = eval (layerAt j .poly) (point (p .n) j m);
-          second = eval (layerAt j .poly) (point (p .n) j (m + half (p .n) j));
+          values = leafValues p (layerAt j .poly) j m;
           siblings = path hash (height p j) (leaves (layerAt j .poly) j) m;
         }
 
@@ -67,7 +70,7 @@ module _ (hash : List ℕ → Digest) (p : Params) where
         record {
           roots = tabulate (p .k) builtRoot;
           final = layerAt (p .k) .poly;
-          queries = tabulate (p .q) (λ i. tabulate (p .k) (λ j. openingOf j (builtLeaf i % half (p .n) j)));
+          queries = tabulate (p .q) (λ i. tabulate (p .k) (λ j. openingOf j (builtLeaf i % leafCount p j)));
         }
 
     unfoldable pub builtFile : List ℕ

@@ -9,13 +9,12 @@ use Rattle.answer.specs.declared.Answer.{Answer}
 use Rattle.field.specs.Modular.{mulMod, invMod, subgroupGenerator}
 use Rattle.sha256.specs.Sha256.{sha256}
 use Rattle.params.specs.declared.Params.{Params}
-use Rattle.params.specs.Parameters.{valid, finalCount, fileLength, height}
-use Rattle.domain.specs.Domain.{half}
+use Rattle.params.specs.Parameters.{valid, finalCount, fileLength, height, leafCount}
 use Rattle.transcript.specs.Transcript.{challenge}
 use Rattle.fold.specs.Poly.{eval, fold}
 use Rattle.fold.specs.Fold.{next}
 use Rattle.fri.specs.Process.{run, done}
-use Rattle.fri.specs.Judge.{number, named, endAnswer, verdict}
+use Rattle.fri.specs.Judge.{number, valueAt, endAnswer, verdict}
 
 pub record Example : Type 0 where
   pub gives : List ℕ
@@ -36,6 +35,9 @@ shown a = a .number ∷ a .place ∷ []
 
 abbrev pub parameters : ℕ → ℕ → ℕ → ℕ → Params
 parameters n b k q = record { n = n; b = b; k = k; q = q }
+
+abbrev pub small : Params
+small = parameters 4 1 2 1
 
 -- The opening's verdict on no bytes, with a context of zeros.
 abbrev pub opened : Params → Answer
@@ -81,10 +83,10 @@ examples =
     ∷ (shown (opened (parameters 20 8 6 0)) is 10 ∷ 0 ∷ [])
     ∷ (shown (opened (parameters 20 8 6 65)) is 10 ∷ 0 ∷ [])
     -- n = 4, b = 1, k = 2, m = 6: leaf 6, with the values at 6 and 14; then leaf 2, where index 6 names the second value; final index 2; paths 3 and 2 long
-    ∷ ((6 % half 4 0) ∷ (6 % half 4 0 + half 4 0) ∷ [] is 6 ∷ 14 ∷ [])
-    ∷ ((6 % half 4 1) ∷ named (parameters 4 1 2 1) 1 (6 % half 4 0) 1 2 ∷ [] is 2 ∷ 2 ∷ [])
-    ∷ (one (6 % half 4 0 % half 4 1) is one 2)
-    ∷ (height (parameters 4 1 2 1) 0 ∷ height (parameters 4 1 2 1) 1 ∷ [] is 3 ∷ 2 ∷ [])
+    ∷ ((6 % leafCount small 0) ∷ (6 % leafCount small 0 + leafCount small 0) ∷ [] is 6 ∷ 14 ∷ [])
+    ∷ ((6 % leafCount small 1) ∷ valueAt small 1 (6 % leafCount small 0) (1 ∷ 2 ∷ []) ∷ [] is 2 ∷ 2 ∷ [])
+    ∷ (one (6 % leafCount small 0 % leafCount small 1) is one 2)
+    ∷ (height small 0 ∷ height small 1 ∷ [] is 3 ∷ 2 ∷ [])
     -- eight bytes ff draw the challenge 1789569708
     ∷ (one (challenge allOnes []) is one 1789569708)
     -- in a proof 00 00 00 c0 is a number, and 01 00 00 c0 gets 22 at its 4th byte

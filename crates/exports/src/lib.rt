@@ -34,8 +34,8 @@ pub extern "C" fn phieulakhon_file_length(p: Params) -> usize
 pub extern "C" fn phieulakhon_open(
     p: Params,
     context: &[u8; 32],
-    marks: &mut [u8; 9],
-    words: &mut [u32; 7],
+    marks: &mut [u8; 10],
+    words: &mut [u32; 10],
     counts: &mut [usize; 2],
     item: &mut [u8; 32],
     node: &mut [u8; 32],
@@ -65,8 +65,8 @@ pub extern "C" fn phieulakhon_open(
 // A piece, of any number of bytes.
 #[no_mangle]
 pub extern "C" fn phieulakhon_piece(
-    marks: &mut [u8; 9],
-    words: &mut [u32; 7],
+    marks: &mut [u8; 10],
+    words: &mut [u32; 10],
     counts: &mut [usize; 2],
     item: &mut [u8; 32],
     bytes: &[u8],
@@ -95,8 +95,8 @@ pub extern "C" fn phieulakhon_piece(
 // The end call. It leaves the closed state.
 #[no_mangle]
 pub extern "C" fn phieulakhon_end(
-    marks: &mut [u8; 9],
-    words: &mut [u32; 7],
+    marks: &mut [u8; 10],
+    words: &mut [u32; 10],
     counts: &mut [usize; 2],
     item: &mut [u8; 32],
     node: &mut [u8; 32],

@@ -4,6 +4,7 @@ use mathlib.Core.Path.{_≡_, refl, sym, ap, _∙_}
 use Prim.Native.Nat.{ℕ, _+_, _*_, _<_}
 use native.Mathlib.Nat.{mod-eq-of-lt}
 use mathlib.Core.Bool.{Bool, true, false}
+use mathlib.Core.List.{List}
 use borrow.Author.Tests.{eqb-true, eqb-false, eq-eqb, ne-eqb}
 use lib.Dec.{lit<, eqb}
 use native.Mathlib.Omega.{arith}
@@ -11,7 +12,7 @@ use Rattle.field.specs.Modular.{p, addMod, subMod, mulMod, invMod}
 use Rattle.field.proofs.Ring.{Expr, val, _⊕_, _⊖_, _⊗_, ring}
 use Rattle.field.proofs.Laws.{addMod-lt, mulMod-lt, mulMod-assoc, mulMod-one, mulMod-cancel, unit-product}
 use Rattle.field.proofs.Inverse.{inverse-law, unit-positive}
-use Rattle.fold.specs.Fold.{scale, folded, next, agrees, Colinear, anything, expected, fits}
+use Rattle.fold.specs.Fold.{scale, folded, next, agrees, FoldsFrom, anything, expected, fits}
 
 double-unit : (x : ℕ) → 0 < x → x < p → mulMod (mulMod 2 x) (invMod (mulMod 2 x)) ≡ 1
 double-unit x h b =
@@ -64,14 +65,14 @@ agrees-next x β a c v h b l =
     (fold-unique x a c β v h b l)
     (λ e. ap (mulMod (scale x)) e ∙ fold-law x a c β h b)
 
--- The test of the folded value says that it is colinear; where nothing is expected, every value passes.
-pub fits-colinear : (x β a c v : ℕ) → fits (expected x β a c) v ≡ true → Colinear x β a c v
+-- The test of the folded value says that it is the one folded from the leaf's values; where nothing is expected, every value passes.
+pub fits-folds : (x β : ℕ) (values : List ℕ) (v : ℕ) → fits (expected x β values) v ≡ true → FoldsFrom x β values v
 unfolding agrees
-fits-colinear x β a c v e = eqb-true _ _ e
+fits-folds x β values v e = eqb-true _ _ e
 
-pub colinear-fits : (x β a c v : ℕ) → Colinear x β a c v → fits (expected x β a c) v ≡ true
+pub folds-fit : (x β : ℕ) (values : List ℕ) (v : ℕ) → FoldsFrom x β values v → fits (expected x β values) v ≡ true
 unfolding agrees
-colinear-fits x β a c v e = eq-eqb _ _ e
+folds-fit x β values v e = eq-eqb _ _ e
 
 pub fits-anything : (v : ℕ) → fits anything v ≡ true
 unfolding agrees mulMod

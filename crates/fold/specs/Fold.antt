@@ -1,8 +1,10 @@
 -- The fold at one point x (document 01, "The fold"): next is the one number with 2·x·next = x·(a+c) + β·(a−c), for the values a at x and c at −x.
 use Prim.Native.Nat.{ℕ}
 use mathlib.Core.Bool.{Bool}
+use mathlib.Core.List.{List}
 use mathlib.Core.Path.{_≡_}
 use lib.Dec.{eqb}
+use lib.ListN.{getD}
 use Rattle.field.specs.Modular.{addMod, subMod, mulMod, invMod}
 
 -- 2·x
@@ -21,13 +23,17 @@ agrees scale folded v = eqb (mulMod scale v) folded
 abbrev pub Colinear : ℕ → ℕ → ℕ → ℕ → ℕ → Type 0
 Colinear x β a c v = mulMod (scale x) v ≡ folded x β a c
 
+-- v is the value folded from a leaf's values, the first of them at x.
+abbrev pub FoldsFrom : ℕ → ℕ → List ℕ → ℕ → Type 0
+FoldsFrom x β values v = Colinear x β (getD values 0 0) (getD values 1 0) v
+
 -- What the value in the next layer must meet, worked out before it is read.
 pub record Expected : Type 0 where
   pub scale : ℕ
   pub folded : ℕ
 
-abbrev pub expected : ℕ → ℕ → ℕ → ℕ → Expected
-expected x β a c = record { scale = scale x; folded = folded x β a c }
+abbrev pub expected : ℕ → ℕ → List ℕ → Expected
+expected x β values = record { scale = scale x; folded = folded x β (getD values 0 0) (getD values 1 0) }
 
 -- Met by every value: nothing is expected of layer 0's.
 abbrev pub anything : Expected

@@ -9,68 +9,68 @@ use lib.ListN.{length, getD, take, drop, drop-of-length-le}
 use lib.Seq.{drop-cons}
 use borrow.Author.Tests.{ltb-true, ltb-false}
 use Rattle.params.specs.declared.Params.{Params}
-use Rattle.params.specs.Parameters.{header}
+use Rattle.params.specs.Parameters.{header, depth, leafCount}
+use Rattle.params.proofs.LeafLaws.{leaf-later}
 use Rattle.message.specs.Message.{Digest}
-use Rattle.domain.specs.Domain.{half, point}
-use Rattle.domain.proofs.Index.{leaf-later}
+use Rattle.domain.specs.Domain.{point}
 use Rattle.merkle.specs.Merkle.{climb, leaf}
 use Rattle.transcript.specs.Transcript.{start, absorb, challenge, absorbed}
 use Rattle.fold.specs.Poly.{eval}
-use Rattle.fold.specs.Fold.{Expected, anything, expected, fits, Colinear}
-use Rattle.fold.proofs.FoldLaws.{fits-colinear, colinear-fits, fits-anything}
+use Rattle.fold.specs.Fold.{Expected, anything, expected, fits, FoldsFrom}
+use Rattle.fold.proofs.FoldLaws.{fits-folds, folds-fit, fits-anything}
 use Rattle.fri.specs.Encoding.{Opening, noOpening, Proof, openingAt, IsOpening, HasLayout}
-use Rattle.fri.specs.Judge.{named}
+use Rattle.fri.specs.Judge.{valueAt}
 use Rattle.fri.specs.Accepted.{challengeAt, drawnLeaf, leafAt, openedLeaf, pointAt, FoldsTo, nextValue, Holds}
 
 -- The value at index m of layer j, where os are the openings from layer j on: after the last layer the final polynomial's.
-unfoldable pub valueAt : Params → List ℕ → ℕ → ℕ → List Opening → ℕ
-valueAt p final j m [] = eval final (point (p .n) j m)
-valueAt p final j m (o ∷ os) = named p j m (o .first) (o .second)
+unfoldable pub reached : Params → List ℕ → ℕ → ℕ → List Opening → ℕ
+reached p final j m [] = eval final (point (p .n) (depth p j) m)
+reached p final j m (o ∷ os) = valueAt p j m (o .values)
 
 -- What holds of the opening o in layer j, at leaf m of a tree with this root: its form, its path, and that it folds to v.
 pub record Layer (hash : List ℕ → Digest) (p : Params) (j m β : ℕ) (root : Digest) (o : Opening) (v : ℕ) : Type 0 where
   pub form : IsOpening p j o
-  pub opens : climb hash (leaf hash (o .first ∷ o .second ∷ [])) m (o .siblings) ≡ root
-  pub folds : Colinear (point (p .n) j m) β (o .first) (o .second) v
+  pub opens : climb hash (leaf hash (o .values)) m (o .siblings) ≡ root
+  pub folds : FoldsFrom (point (p .n) (depth p j) m) β (o .values) v
 
 -- What is expected after the opening o in layer j, at leaf m, where s is the transcript after the layer's root.
 abbrev after : (List ℕ → Digest) → Params → ℕ → ℕ → Digest → Opening → Expected
-after hash p j m s o = expected (point (p .n) j m) (challenge hash s) (o .first) (o .second)
+after hash p j m s o = expected (point (p .n) (depth p j) m) (challenge hash s) (o .values)
 
 -- The chain from layer j on, as the judgement walks it: the value at index m meets what is expected, the leaf opens to the root, and the leaf is
 -- the index in the next layer.
 pub data Chain (hash : List ℕ → Digest) (p : Params) (final : List ℕ) : ℕ → ℕ → Expected → Digest → List Digest → List Opening → Type 0 where
-  end : {j m : ℕ} {e : Expected} {s : Digest} → fits e (eval final (point (p .n) j m)) ≡ true → Chain hash p final j m e s [] []
+  end : {j m : ℕ} {e : Expected} {s : Digest} → fits e (eval final (point (p .n) (depth p j) m)) ≡ true → Chain hash p final j m e s [] []
   layer : {j m : ℕ} {e : Expected} {s root : Digest} {roots : List Digest} {o : Opening} {os : List Opening}
       → IsOpening p j o
-      → fits e (named p j m (o .first) (o .second)) ≡ true
-      → climb hash (leaf hash (o .first ∷ o .second ∷ [])) (m % half (p .n) j) (o .siblings) ≡ root
-      → Chain hash p final (suc j) (m % half (p .n) j) (after hash p j (m % half (p .n) j) (absorb hash s root) o) (absorb hash s root) roots os
+      → fits e (valueAt p j m (o .values)) ≡ true
+      → climb hash (leaf hash (o .values)) (m % leafCount p j) (o .siblings) ≡ root
+      → Chain hash p final (suc j) (m % leafCount p j) (after hash p j (m % leafCount p j) (absorb hash s root) o) (absorb hash s root) roots os
       → Chain hash p final j m e s (root ∷ roots) (o ∷ os)
 
--- Layer l of a query with index m: its leaf is m % half, its challenge comes from the transcript s and the roots up to the t-th.
+-- Layer l of a query with index m: its leaf is m % leafCount, its challenge comes from the transcript s and the roots up to the t-th.
 abbrev LayerAt : (List ℕ → Digest) → Params → List ℕ → ℕ → Digest → List Digest → List Opening → ℕ → ℕ → Type 0
 LayerAt hash p final m s roots os t l =
-    Layer hash p l (m % half (p .n) l) (challenge hash (absorbed hash s (take (suc t) roots))) (getD roots t []) (getD os t noOpening)
-    (valueAt p final (suc l) (m % half (p .n) l) (drop (suc t) os))
+    Layer hash p l (m % leafCount p l) (challenge hash (absorbed hash s (take (suc t) roots))) (getD roots t []) (getD os t noOpening)
+    (reached p final (suc l) (m % leafCount p l) (drop (suc t) os))
 
 -- The same as the chain, each layer by itself: the t-th of them is layer l = j + t.
 pub record Layers (hash : List ℕ → Digest) (p : Params) (final : List ℕ) (j m : ℕ) (e : Expected) (s : Digest) (roots : List Digest)
     (os : List Opening) : Type 0 where
   pub count : length os ≡ length roots
-  pub meets : fits e (valueAt p final j m os) ≡ true
+  pub meets : fits e (reached p final j m os) ≡ true
   pub layer : (t l : ℕ) → l ≡ j + t → t < length roots → LayerAt hash p final m s roots os t l
 
 module _ (hash : List ℕ → Digest) (p : Params) (final : List ℕ) where
   -- A layer's facts at a leaf that is given in two ways.
   same-leaf : {l m x β : ℕ} {root : Digest} {o : Opening} (os : List Opening) → m ≡ x
-      → Layer hash p l m β root o (valueAt p final (suc l) m os) → Layer hash p l x β root o (valueAt p final (suc l) x os)
-  same-leaf {l} {m} {x} {β} {root} {o} os e h = subst (λ u. Layer hash p l u β root o (valueAt p final (suc l) u os)) e h
+      → Layer hash p l m β root o (reached p final (suc l) m os) → Layer hash p l x β root o (reached p final (suc l) x os)
+  same-leaf {l} {m} {x} {β} {root} {o} os e h = subst (λ u. Layer hash p l u β root o (reached p final (suc l) u os)) e h
 
   -- The value in the chain's next layer.
   next-fits : {j m : ℕ} {e : Expected} {s : Digest} {roots : List Digest} {os : List Opening}
-      → Chain hash p final j m e s roots os → fits e (valueAt p final j m os) ≡ true
-  unfolding valueAt
+      → Chain hash p final j m e s roots os → fits e (reached p final j m os) ≡ true
+  unfolding reached
   next-fits (end h) = h
   next-fits (layer form h opens rest) = h
 
@@ -81,9 +81,9 @@ module _ (hash : List ℕ → Digest) (p : Params) (final : List ℕ) where
   chain-layer (end h) t l i b = absurd (omega arith)
   chain-layer (layer {j} {m} {e} {s} {root} {roots} {o} {os} form h opens rest) zero l i b =
       subst (LayerAt hash p final m s (root ∷ roots) (o ∷ os) 0) (omega arith)
-      (record { form = form; opens = opens; folds = fits-colinear _ _ _ _ _ (next-fits rest) })
+      (record { form = form; opens = opens; folds = fits-folds _ _ (o .values) _ (next-fits rest) })
   chain-layer (layer {j} {m} {e} {s} {root} {roots} {o} {os} form h opens rest) (suc t) l i b =
-      same-leaf (drop (suc t) os) (leaf-later (p .n) j l m (omega arith)) (chain-layer rest t l (omega arith) (omega arith))
+      same-leaf (drop (suc t) os) (leaf-later p j l m (omega arith)) (chain-layer rest t l (omega arith) (omega arith))
 
   chain-count : {j m : ℕ} {e : Expected} {s : Digest} {roots : List Digest} {os : List Opening}
       → Chain hash p final j m e s roots os → length os ≡ length roots
@@ -96,18 +96,18 @@ module _ (hash : List ℕ → Digest) (p : Params) (final : List ℕ) where
 
   pub layers-chain : {j m : ℕ} {e : Expected} {s : Digest} (roots : List Digest) (os : List Opening)
       → Layers hash p final j m e s roots os → Chain hash p final j m e s roots os
-  unfolding valueAt absorbed
+  unfolding reached absorbed
   layers-chain [] [] h = end (h .meets)
   layers-chain [] (o ∷ os) h = absurd (omega (arith, h .count))
   layers-chain (root ∷ roots) [] h = absurd (omega (arith, h .count))
   layers-chain {j} {m} {e} {s} (root ∷ roots) (o ∷ os) h =
       let here = h .layer 0 j (omega arith) (omega arith) in
       layer (here .form) (h .meets) (here .opens)
-      (layers-chain roots os
+      (layers-chain {e = after hash p j (m % leafCount p j) (absorb hash s root) o} roots os
       (record {
         count = omega (arith, h .count);
-        meets = colinear-fits _ _ _ _ _ (here .folds);
-        layer = λ t l i b. same-leaf (drop (suc t) os) (sym (leaf-later (p .n) j l m (omega arith))) (h .layer (suc t) l (omega arith) (omega arith));
+        meets = folds-fit _ _ (o .values) _ (here .folds);
+        layer = λ t l i b. same-leaf (drop (suc t) os) (sym (leaf-later p j l m (omega arith))) (h .layer (suc t) l (omega arith) (omega arith));
       }))
 
 module _ (hash : List ℕ → Digest) (p : Params) (context : List ℕ) (proof : Proof) where
@@ -126,16 +126,16 @@ module _ (hash : List ℕ → Digest) (p : Params) (context : List ℕ) (proof :
 
   -- The value after layer j: the next layer's, or the final polynomial's.
   abbrev valueAfter : ℕ → ℕ → ℕ
-  valueAfter i j = valueAt p (proof .final) (suc j) (leafAt hash p context proof i j) (drop (suc j) (openings i))
+  valueAfter i j = reached p (proof .final) (suc j) (leafAt hash p context proof i j) (drop (suc j) (openings i))
 
   -- It is the specification's: in the layers before the last, and after the last.
   after-layer : (i j : ℕ) → length (openings i) ≡ p .k → suc j < p .k → valueAfter i j ≡ nextValue hash p context proof i j
-  unfolding valueAt nextValue
+  unfolding reached nextValue
   after-layer i j e h = rw (drop-cons (openings i) (suc j) noOpening (omega arith))
 
   after-last : (i j : ℕ) → length (openings i) ≡ p .k → suc j ≡ p .k
-      → valueAfter i j ≡ eval (proof .final) (point (p .n) (suc j) (leafAt hash p context proof i j))
-  unfolding valueAt
+      → valueAfter i j ≡ eval (proof .final) (point (p .n) (depth p (suc j)) (leafAt hash p context proof i j))
+  unfolding reached
   after-last i j e h = rw (drop-of-length-le (openings i) {i = suc j} (omega arith))
 
   -- Where every query's chain holds, every query has an opening of the right form in each layer, and the proof holds.

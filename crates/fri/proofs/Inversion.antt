@@ -9,12 +9,11 @@ use lib.ListN.{length, getD, take, drop, length-take, take-append-drop}
 use borrow.Author.Tests.{leb-true, leb-false, ltb-true, eqb-true}
 use Rattle.answer.specs.Table.{count-differs, parameters-differ, not-below-modulus, not-the-folded-value, path-misses-root, misses-final-polynomial}
 use Rattle.params.specs.declared.Params.{Params}
-use Rattle.params.specs.Parameters.{headerSize, header, height, indexBits, finalCount}
+use Rattle.params.specs.Parameters.{headerSize, header, valuesPerLeaf, height, leafCount, indexBits, finalCount}
 use Rattle.field.specs.Modular.{p as modulus}
 use Rattle.message.specs.Bytes.{le, num, joined, words}
 use Rattle.message.specs.Message.{Digest}
 use Rattle.message.proofs.Bytes.{Bytes, bytes-below, take-bytes, drop-bytes, taken-number}
-use Rattle.domain.specs.Domain.{half}
 use Rattle.transcript.specs.Transcript.{start, absorb, drawn}
 use Rattle.fold.specs.Fold.{Expected, anything}
 use Rattle.fri.specs.Process.{Process, need, refused, ended, left, outcome, run, Parser, pure, _>>=_, _>>_, bytes, ensure, many}
@@ -203,19 +202,19 @@ pub record Asked (hash : List ℕ → Digest) (p : Params) (final : List ℕ) (d
 module _ (hash : List ℕ → Digest) (p : Params) where
   inverts-walk : (final : List ℕ) (j m : ℕ) (e : Expected) (s : Digest) (roots : List Digest)
       → Inverts (walk hash p final j m e s roots) (λ us _. Walked hash p final j m e s roots us)
-  unfolding walk queryBytes openingBytes joined
+  unfolding walk queryBytes openingBytes joined words
   inverts-walk final j m e s [] = inverts-ensure _ misses-final-polynomial (λ t. record { openings = []; bytes = refl; chain = end t })
   inverts-walk final j m e s (root ∷ roots) =
-      inverts-next _ inverts-number (λ a ha. inverts-next _ inverts-number (λ c hc. inverts-test _ not-the-folded-value (λ met.
+      inverts-next _ (inverts-many 0 (valuesPerLeaf p) inverts-number) (λ values hv. inverts-test _ not-the-folded-value (λ met.
       inverts-next _ (inverts-digests (height p j)) (λ siblings h. inverts-test _ path-misses-root (λ met-root.
-      weaken (inverts-walk final (suc j) (m % half (p .n) j) _ (absorb hash s root) roots) (λ us _ rest.
-      let o : Opening = record { first = a; second = c; siblings = siblings } in
-      let form : IsOpening p j o = record { first-below = ha; second-below = hc; sibling-count = h .count; sibling = h .each } in
+      weaken (inverts-walk final (suc j) (m % leafCount p j) _ (absorb hash s root) roots) (λ us _ rest.
+      let o : Opening = record { values = values; siblings = siblings } in
+      let form : IsOpening p j o = record { value-count = hv .count; value-below = hv .each; sibling-count = h .count; sibling = h .each } in
       record {
         openings = o ∷ rest .openings;
         bytes = rw (rest .bytes) (simp append-assoc);
         chain = layer form met (same-equal _ root met-root) (rest .chain);
-      }))))))
+      })))))
 
   inverts-queries : (final : List ℕ) (drawing s : Digest) (roots : List Digest) (c i : ℕ)
       → Inverts (queries hash p c i final drawing s roots) (λ us _. Asked hash p final drawing s roots c i us)

@@ -49,11 +49,10 @@ module _ (hash : List ℕ → Digest) (p : Params) where
   reads-walk (end h) = reads-ensure _ misses-final-polynomial h
   reads-walk (layer {root = root} {o = o} {os = os} form h opens rest) =
       simp append-assoc
-      (reads-bind _ (reads-number (o .first) (form .first-below))
-      (reads-bind _ (reads-number (o .second) (form .second-below))
+      (reads-bind _ (reads-numbers _ (o .values) (form .value-count) (form .value-below))
       (reads-test _ not-the-folded-value h
       (reads-bind _ (reads-digests _ (o .siblings) (form .sibling-count) (form .sibling))
-      (reads-test _ path-misses-root (rw opens (same-self root)) (reads-walk rest))))))
+      (reads-test _ path-misses-root (rw opens (same-self root)) (reads-walk rest)))))
 
   -- Queries from query i on: the c-th of them is query l = i + c.
   reads-queries : (final : List ℕ) (t s : Digest) (roots : List Digest) (qs : List (List Opening)) (i : ℕ)

@@ -7,9 +7,8 @@ use native.Mathlib.Omega.{arith}
 use lib.ListN.{length}
 use Rattle.answer.specs.Table.{answered, accepted, count-differs, parameters-differ, not-below-modulus, not-the-folded-value, path-misses-root, misses-final-polynomial}
 use Rattle.params.specs.declared.Params.{Params}
-use Rattle.params.specs.Parameters.{headerSize, header, height, indexBits, finalCount, queryLength, queriesOffset, fileLength}
+use Rattle.params.specs.Parameters.{headerSize, header, valuesPerLeaf, height, leafCount, indexBits, finalCount, queryLength, queriesOffset, fileLength}
 use Rattle.message.specs.Message.{Digest}
-use Rattle.domain.specs.Domain.{half}
 use Rattle.transcript.specs.Transcript.{start, absorb, finish, drawn, absorbed}
 use Rattle.fold.specs.Fold.{Expected, anything}
 use Rattle.fri.specs.Process.{Result, done, short, refused, ended}
@@ -31,9 +30,9 @@ module _ (hash : List ℕ → Digest) (p : Params) where
   takes-walk final j m e s [] = takes-ensure _ misses-final-polynomial (omega arith)
   takes-walk final j m e s (root ∷ roots) =
       subst (λ w. Takes (walk hash p final j m e s (root ∷ roots)) w Any) (omega arith)
-      (takes-bind _ takes-number (λ a _. takes-bind _ takes-number (λ c _. takes-then (takes-ensure _ not-the-folded-value (omega arith))
+      (takes-bind _ (takes-many (valuesPerLeaf p) takes-number) (λ values _. takes-then (takes-ensure _ not-the-folded-value (omega arith))
       (takes-bind _ (takes-many (height p j) (takes-bytes 32)) (λ siblings _. takes-then (takes-ensure _ path-misses-root (omega arith))
-      (takes-walk final (suc j) (m % half (p .n) j) _ (absorb hash s root) roots))))))
+      (takes-walk final (suc j) (m % leafCount p j) _ (absorb hash s root) roots)))))
 
   takes-queries : (c i : ℕ) (final : List ℕ) (t s : Digest) (roots : List Digest)
       → Takes (queries hash p c i final t s roots) (c * queryLength p 0 (length roots)) Any

@@ -7,12 +7,11 @@ use Rattle.field.specs.Modular.{p as modulus}
 use Rattle.message.specs.Bytes.{le, joined, words}
 use Rattle.message.specs.Message.{Digest}
 use Rattle.params.specs.declared.Params.{Params}
-use Rattle.params.specs.Parameters.{headerSize, header, finalCount, height}
+use Rattle.params.specs.Parameters.{headerSize, header, finalCount, valuesPerLeaf, height}
 
--- One query's opening in one layer: the values at leaf m and at m + half, and the siblings from the leaf up.
+-- One query's opening in one layer: the values of leaf m, at the points m + r · the number of leaves, and the siblings from the leaf up.
 pub record Opening : Type 0 where
-  pub first : ℕ
-  pub second : ℕ
+  pub values : List ℕ
   pub siblings : List Digest
 
 -- A proof: the root of each layer, the final coefficients, lowest power first, and for each query an opening in each layer.
@@ -27,7 +26,7 @@ tabulate zero g = []
 tabulate (suc n) g = g 0 ∷ tabulate n (λ i. g (suc i))
 
 unfoldable pub openingBytes : Opening → List ℕ
-openingBytes o = le 4 (o .first) ++ (le 4 (o .second) ++ joined (o .siblings))
+openingBytes o = words (o .values) ++ joined (o .siblings)
 
 unfoldable pub queryBytes : List Opening → List ℕ
 queryBytes os = joined (map openingBytes os)
@@ -50,7 +49,7 @@ rootAt proof j = getD (proof .roots) j []
 
 -- The opening of query i in layer j; where there is none, an empty one.
 abbrev pub noOpening : Opening
-noOpening = record { first = 0; second = 0; siblings = [] }
+noOpening = record { values = []; siblings = [] }
 
 abbrev pub openingAt : Proof → ℕ → ℕ → Opening
 openingAt proof i j = getD (getD (proof .queries) i []) j noOpening
@@ -62,8 +61,8 @@ pub record IsDigest (d : Digest) : Type 0 where
 
 -- An opening in layer j: numbers below the modulus, and a sibling for each height.
 pub record IsOpening (p : Params) (j : ℕ) (o : Opening) : Type 0 where
-  pub first-below : o .first < modulus
-  pub second-below : o .second < modulus
+  pub value-count : length (o .values) ≡ valuesPerLeaf p
+  pub value-below : (r : ℕ) → r < valuesPerLeaf p → getD (o .values) r 0 < modulus
   pub sibling-count : length (o .siblings) ≡ height p j
   pub sibling : (h : ℕ) → h < height p j → IsDigest (getD (o .siblings) h [])
 

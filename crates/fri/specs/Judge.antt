@@ -1,18 +1,18 @@
 -- The judgement of a file (document 01, "When the reader says no"): the sections in order, each test with the table's number, right after the
 -- bytes that decide it. So a refusal's place is the last byte of what decides, and of two tests at one byte the earlier one goes first.
-use Prim.Native.Nat.{ℕ, zero, suc, _+_, _%_}
+use Prim.Native.Nat.{ℕ, zero, suc, _+_, _%_, _/_}
 use mathlib.Core.Bool.{Bool, true, false, _&&_, cond}
 use mathlib.Core.List.{List, [], _∷_}
 use lib.Dec.{ltb, eqb}
-use lib.ListN.{length}
+use lib.ListN.{length, getD}
 use Rattle.answer.specs.declared.Answer.{Answer}
 use Rattle.answer.specs.Table.{answered, open-so-far, accepted, parameters-not-valid, count-differs, parameters-differ, not-below-modulus, not-the-folded-value, path-misses-root, misses-final-polynomial, too-few-bytes, byte-after-the-end}
 use Rattle.params.specs.declared.Params.{Params}
-use Rattle.params.specs.Parameters.{headerSize, header, valid, finalCount, height, indexBits}
+use Rattle.params.specs.Parameters.{headerSize, header, valid, finalCount, depth, valuesPerLeaf, height, leafCount, indexBits}
 use Rattle.field.specs.Modular.{p as modulus}
 use Rattle.message.specs.Bytes.{num}
 use Rattle.message.specs.Message.{Digest}
-use Rattle.domain.specs.Domain.{half, point}
+use Rattle.domain.specs.Domain.{point}
 use Rattle.merkle.specs.Merkle.{climb, leaf}
 use Rattle.transcript.specs.Transcript.{start, absorb, challenge, finish, drawn, absorbed}
 use Rattle.fold.specs.Poly.{eval}
@@ -39,22 +39,21 @@ number = do
   ensure (ltb (num four) modulus) not-below-modulus
   pure (num four)
 
--- Of the values at a leaf of layer j, the one that index m names: the first if m is below half the layer, else the second.
-unfoldable pub named : Params → ℕ → ℕ → ℕ → ℕ → ℕ
-named p j m a c = cond (ltb m (half (p .n) j)) a c
+-- Of the values at a leaf of layer j, the one that index m names.
+unfoldable pub valueAt : Params → ℕ → ℕ → List ℕ → ℕ
+valueAt p j m values = getD values (m / leafCount p j) 0
 
 module _ (hash : List ℕ → Digest) (p : Params) where
   -- The layers of a query from layer j on, then the final polynomial. The index is m in layer j, e is what the folded value must meet, s is
   -- the transcript before these layers' roots.
   unfoldable pub walk : List ℕ → ℕ → ℕ → Expected → Digest → List Digest → Parser (Unit {0})
-  walk final j m e s [] = ensure (fits e (eval final (point (p .n) j m))) misses-final-polynomial
+  walk final j m e s [] = ensure (fits e (eval final (point (p .n) (depth p j) m))) misses-final-polynomial
   walk final j m e s (root ∷ roots) = do
-    a ← number
-    c ← number
-    ensure (fits e (named p j m a c)) not-the-folded-value
+    values ← many (valuesPerLeaf p) number
+    ensure (fits e (valueAt p j m values)) not-the-folded-value
     siblings ← many (height p j) (bytes 32)
-    ensure (sameBytes (climb hash (leaf hash (a ∷ c ∷ [])) (m % half (p .n) j) siblings) root) path-misses-root
-    walk final (suc j) (m % half (p .n) j) (expected (point (p .n) j (m % half (p .n) j)) (challenge hash (absorb hash s root)) a c) (absorb hash s root) roots
+    ensure (sameBytes (climb hash (leaf hash values) (m % leafCount p j) siblings) root) path-misses-root
+    walk final (suc j) (m % leafCount p j) (expected (point (p .n) (depth p j) (m % leafCount p j)) (challenge hash (absorb hash s root)) values) (absorb hash s root) roots
 
   -- As many queries as given, from query i on: t is the transcript that draws them, s the one before the roots. Of layer 0's values nothing is expected.
   unfoldable pub queries : ℕ → ℕ → List ℕ → Digest → Digest → List Digest → Parser (Unit {0})

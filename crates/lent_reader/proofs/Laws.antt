@@ -2,9 +2,9 @@
 use Prim.Native.Nat.{ℕ, zero, suc, _+_, _<_}
 use native.Mathlib.Omega.{arith}
 use mathlib.Core.Bool.{Bool, true, false, cond}
-use mathlib.Core.List.{List, [], _∷_}
-use mathlib.Core.Path.{_≡_, refl, sym, ap, _∙_}
-use lib.ListN.{getD, set, length}
+use mathlib.Core.List.{List, [], _∷_, _++_}
+use mathlib.Core.Path.{_≡_, refl, sym, ap, ap₂, _∙_}
+use lib.ListN.{getD, set, length, drop}
 use lib.Seq.{sets}
 use lib.Dec.{ltb, eqb}
 use borrow.Author.Tests.{ltb-true, eqb-true}
@@ -12,7 +12,7 @@ use Rattle.sha256.specs.Sha256.{sha256}
 use Rattle.answer.specs.declared.Answer.{Answer}
 use Rattle.answer.specs.Table.{answered, open-so-far}
 use Rattle.reader_model.specs.declared.Stage.{Stage}
-use Rattle.reader_model.specs.declared.Stage.the-variants.{ParameterCount, Parameters, RootCount, Root, CoefficientCount, Coefficient, QueryCount, First, Second, Sibling, Tail, Stopped}
+use Rattle.reader_model.specs.declared.Stage.the-variants.{ParameterCount, Parameters, RootCount, Root, CoefficientCount, Coefficient, QueryCount, Value, Sibling, Tail, Stopped}
 use Rattle.reader_model.specs.declared.Core.{Core}
 use Rattle.reader_model.specs.declared.Hold.{Hold}
 use Rattle.reader_model.specs.declared.Tables.{Tables}
@@ -57,6 +57,20 @@ spelt (x ∷ xs) = ap (λ l. x ∷ l) (spelt xs)
 spelt-by : (n : ℕ) (xs : List ℕ) → length xs ≡ n → xs ≡ elements n (λ i. getD xs i 0)
 spelt-by n xs e = spelt xs ∙ ap (λ k. elements k (λ i. getD xs i 0)) e
 
+-- The words: six numbers, then the leaf's values.
+pub last-four : (ws : List ℕ) → length ws ≡ 10 → getD ws 6 0 ∷ getD ws 7 0 ∷ getD ws 8 0 ∷ getD ws 9 0 ∷ [] ≡ drop 6 ws
+last-four ws e = sym (ap (drop 6) (spelt-by 10 ws e))
+
+first-six : (ws : List ℕ) → length ws ≡ 10
+    → ws ≡ getD ws 0 0 ∷ getD ws 1 0 ∷ getD ws 2 0 ∷ getD ws 3 0 ∷ getD ws 4 0 ∷ getD ws 5 0 ∷ drop 6 ws
+first-six ws e =
+    spelt-by 10 ws e ∙ ap (λ l. getD ws 0 0 ∷ getD ws 1 0 ∷ getD ws 2 0 ∷ getD ws 3 0 ∷ getD ws 4 0 ∷ getD ws 5 0 ∷ l) (last-four ws e)
+
+pub joined-words : (front values : List ℕ) → length front ≡ 6 → length values ≡ 4
+    → getD front 0 0 ∷ getD front 1 0 ∷ getD front 2 0 ∷ getD front 3 0 ∷ getD front 4 0 ∷ getD front 5 0 ∷ getD values 0 0 ∷ getD values 1 0 ∷ getD values 2 0 ∷ getD values 3 0 ∷ []
+    ≡ front ++ values
+joined-words front values l k = sym (ap₂ (λ (xs ys : List ℕ). xs ++ ys) (spelt-by 6 front l) (spelt-by 4 values k))
+
 -- A stage whose item has bytes is not the stopped one, and has one number only.
 pick : (m k : ℕ) (s rest : Stage) (test : Bool) → eqb m k ≡ test → numberOf s ≡ k → (0 < itemLength rest → numberOf rest ≡ m) → 0 < itemLength (cond test s rest) → numberOf (cond test s rest) ≡ m
 pick m k s rest true e named other h = named ∙ sym (eqb-true m k e)
@@ -72,11 +86,10 @@ named-back m =
     (pick m 5 CoefficientCount _ (eqb m 5) refl refl
     (pick m 6 Coefficient _ (eqb m 6) refl refl
     (pick m 7 QueryCount _ (eqb m 7) refl refl
-    (pick m 8 First _ (eqb m 8) refl refl
-    (pick m 9 Second _ (eqb m 9) refl refl
-    (pick m 10 Sibling _ (eqb m 10) refl refl
-    (pick m 11 Tail Stopped (eqb m 11) refl refl
-    (λ h. absurd (omega arith))))))))))))
+    (pick m 8 Value _ (eqb m 8) refl refl
+    (pick m 9 Sibling _ (eqb m 9) refl refl
+    (pick m 10 Tail Stopped (eqb m 10) refl refl
+    (λ h. absurd (omega arith)))))))))))
 
 not-stopped : (stage : Stage) → 0 < itemLength stage → isStopped stage ≡ false
 not-stopped ParameterCount h = refl
@@ -86,8 +99,7 @@ not-stopped Root h = refl
 not-stopped CoefficientCount h = refl
 not-stopped Coefficient h = refl
 not-stopped QueryCount h = refl
-not-stopped First h = refl
-not-stopped Second h = refl
+not-stopped Value h = refl
 not-stopped Sibling h = refl
 not-stopped Tail h = refl
 not-stopped Stopped h = absurd (omega arith)
@@ -145,10 +157,10 @@ module _ (marks words counts item node transcript roots challenges coefficients 
   abbrev now : Reader
   now = readerOf (held marks words counts item node transcript roots challenges coefficients)
 
-  pub held-piece : length marks ≡ 9 → length words ≡ 7 → length counts ≡ 2 → (b .fill ≡ front .fill → ⊥)
+  pub held-piece : length marks ≡ 10 → length words ≡ 10 → length counts ≡ 2 → (b .fill ≡ front .fill → ⊥)
       → outcome (b .answer) marks words (set counts 0 (b .fill)) after node transcript roots challenges coefficients ≡ outcomeOf (pieced sha256 now bytes)
   unfolding outcomeOf heldOf smallOf coreOf
-  held-piece nine seven two differs = by test refl
+  held-piece ten all two differs = by test refl
     where
       by : (t : Bool) → test ≡ t → outcome (b .answer) marks words (set counts 0 (b .fill)) after node transcript roots challenges coefficients ≡ outcomeOf (pieced sha256 now bytes)
       by false e = absurd (differs (ap (λ (x : Buffer). x .fill) (not-held e) ∙ sym fill-is))
@@ -157,8 +169,8 @@ module _ (marks words counts item node transcript roots challenges coefficients 
           let back : numberOf (stageOf (getD marks 0 0)) ≡ getD marks 0 0 = named-back (getD marks 0 0) (omega arith) in
           assembled node transcript (now .tables)
           (ap (λ (x : Buffer). x .answer) (held-is e))
-          (spelt-by 9 marks nine ∙ ap (λ m. m ∷ elements 8 (λ i. getD marks (suc i) 0)) (sym back))
-          (spelt-by 7 words seven)
+          (spelt-by 10 marks ten ∙ ap (λ m. m ∷ elements 9 (λ i. getD marks (suc i) 0)) (sym back))
+          (first-six words all)
           (ap (λ l. set l 0 (b .fill)) (spelt-by 2 counts two) ∙ ap (λ k. k ∷ getD counts 1 0 ∷ []) (ap (λ (x : Buffer). x .fill) (held-is e)))
           (ap (λ (x : Buffer). x .item) (held-is e))
           ∙ ap outcomeOf (sym (pieced-inside now bytes inside))

@@ -10,7 +10,7 @@ use Rattle.fri.specs.Judge.{verdict}
 use Rattle.answer.specs.Table.{answered, open-so-far}
 use Rattle.calls.specs.Calls.{Call, piece, end, endsOnce, joined, answers, given, lastOr, lastGiven}
 use Rattle.reader_model.specs.declared.Stage.{Stage}
-use Rattle.reader_model.specs.declared.Stage.the-variants.{ParameterCount, Parameters, RootCount, Root, CoefficientCount, Coefficient, QueryCount, First, Second, Sibling, Tail, Stopped}
+use Rattle.reader_model.specs.declared.Stage.the-variants.{ParameterCount, Parameters, RootCount, Root, CoefficientCount, Coefficient, QueryCount, Value, Sibling, Tail, Stopped}
 use Rattle.reader_model.specs.declared.Reader.{Reader}
 use Rattle.reader_model.specs.declared.Reply.{Reply}
 use Rattle.reader_model.specs.Model.{opened, pieced, ended}
@@ -28,8 +28,7 @@ stage-round Root = refl
 stage-round CoefficientCount = refl
 stage-round Coefficient = refl
 stage-round QueryCount = refl
-stage-round First = refl
-stage-round Second = refl
+stage-round Value = refl
 stage-round Sibling = refl
 stage-round Tail = refl
 stage-round Stopped = refl

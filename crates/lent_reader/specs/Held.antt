@@ -1,16 +1,16 @@
--- The state as a caller holds it, numbers only, and the reader's state that it stands for. The stage is a number: 1 to 11 in the file's order, and every
+-- The state as a caller holds it, numbers only, and the reader's state that it stands for. The stage is a number: 1 to 10 in the file's order, and every
 -- other number is a stopped reader.
 use Prim.Native.Nat.{ℕ}
 use mathlib.Core.Bool.{cond}
 use mathlib.Core.List.{List, [], _∷_}
-use lib.ListN.{getD}
+use lib.ListN.{getD, drop}
 use lib.Dec.{eqb}
 use Rattle.message.specs.Message.{Digest}
 use Rattle.answer.specs.declared.Answer.{Answer}
 use Rattle.params.specs.declared.Params.{Params}
 use Rattle.calls.specs.Calls.{Reader as Calls}
 use Rattle.reader_model.specs.declared.Stage.{Stage}
-use Rattle.reader_model.specs.declared.Stage.the-variants.{ParameterCount, Parameters, RootCount, Root, CoefficientCount, Coefficient, QueryCount, First, Second, Sibling, Tail, Stopped}
+use Rattle.reader_model.specs.declared.Stage.the-variants.{ParameterCount, Parameters, RootCount, Root, CoefficientCount, Coefficient, QueryCount, Value, Sibling, Tail, Stopped}
 use Rattle.reader_model.specs.declared.Core.{Core}
 use Rattle.reader_model.specs.declared.Tables.{Tables}
 use Rattle.reader_model.specs.declared.Reader.{Reader}
@@ -26,10 +26,9 @@ numberOf Root = 4
 numberOf CoefficientCount = 5
 numberOf Coefficient = 6
 numberOf QueryCount = 7
-numberOf First = 8
-numberOf Second = 9
-numberOf Sibling = 10
-numberOf Tail = 11
+numberOf Value = 8
+numberOf Sibling = 9
+numberOf Tail = 10
 
 unfoldable pub stageOf : ℕ → Stage
 stageOf number =
@@ -40,10 +39,9 @@ stageOf number =
     (cond (eqb number 5) CoefficientCount
     (cond (eqb number 6) Coefficient
     (cond (eqb number 7) QueryCount
-    (cond (eqb number 8) First
-    (cond (eqb number 9) Second
-    (cond (eqb number 10) Sibling
-    (cond (eqb number 11) Tail Stopped))))))))))
+    (cond (eqb number 8) Value
+    (cond (eqb number 9) Sibling
+    (cond (eqb number 10) Tail Stopped)))))))))
 
 -- The small part: its numbers of one, four and eight bytes, and its three runs of 32 bytes.
 pub record Small : Type 0 where
@@ -59,8 +57,8 @@ small marks words counts item node transcript = record { marks = marks; words = 
 
 unfoldable pub smallOf : Core → Small
 smallOf c = record {
-  marks = numberOf (c .stage) ∷ c .params .n ∷ c .params .b ∷ c .params .k ∷ c .params .q ∷ c .cursor .query ∷ c .cursor .layer ∷ c .cursor .height ∷ c .answer .number ∷ [];
-  words = c .cursor .start ∷ c .walk .index ∷ c .walk .position ∷ c .walk .first ∷ c .walk .scale ∷ c .walk .folded ∷ c .answer .place ∷ [];
+  marks = numberOf (c .stage) ∷ c .params .n ∷ c .params .b ∷ c .params .k ∷ c .params .q ∷ c .cursor .query ∷ c .cursor .layer ∷ c .cursor .value ∷ c .cursor .height ∷ c .answer .number ∷ [];
+  words = c .cursor .start ∷ c .walk .index ∷ c .walk .position ∷ c .walk .scale ∷ c .walk .folded ∷ c .answer .place ∷ c .walk .values;
   counts = c .fill ∷ c .cursor .coefficient ∷ [];
   item = c .item;
   node = c .walk .node;
@@ -70,7 +68,7 @@ smallOf c = record {
 unfoldable pub coreOf : Small → Core
 coreOf s = record {
   stage = stageOf (getD (s .marks) 0 0);
-  answer = record { number = getD (s .marks) 8 0; place = getD (s .words) 6 0 };
+  answer = record { number = getD (s .marks) 9 0; place = getD (s .words) 5 0 };
   fill = getD (s .counts) 0 0;
   item = s .item;
   params = record { n = getD (s .marks) 1 0; b = getD (s .marks) 2 0; k = getD (s .marks) 3 0; q = getD (s .marks) 4 0 };
@@ -79,14 +77,15 @@ coreOf s = record {
     coefficient = getD (s .counts) 1 0;
     query = getD (s .marks) 5 0;
     layer = getD (s .marks) 6 0;
-    height = getD (s .marks) 7 0;
+    value = getD (s .marks) 7 0;
+    height = getD (s .marks) 8 0;
   };
   walk = record {
     index = getD (s .words) 1 0;
     position = getD (s .words) 2 0;
-    first = getD (s .words) 3 0;
-    scale = getD (s .words) 4 0;
-    folded = getD (s .words) 5 0;
+    values = drop 6 (s .words);
+    scale = getD (s .words) 3 0;
+    folded = getD (s .words) 4 0;
     node = s .node;
   };
   transcript = s .transcript;

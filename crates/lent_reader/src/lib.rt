@@ -16,8 +16,8 @@ use reader_model::Tables;
 // Leaves a reply's state in the arrays, whatever they held, and gives its answer.
 fn hand_over(
     reply: Reply,
-    marks: &mut [u8; 9],
-    words: &mut [u32; 7],
+    marks: &mut [u8; 10],
+    words: &mut [u32; 10],
     counts: &mut [usize; 2],
     item: &mut [u8; 32],
     node: &mut [u8; 32],
@@ -45,8 +45,8 @@ fn hand_over(
 pub fn open(
     p: Params,
     context: [u8; 32],
-    marks: &mut [u8; 9],
-    words: &mut [u32; 7],
+    marks: &mut [u8; 10],
+    words: &mut [u32; 10],
     counts: &mut [usize; 2],
     item: &mut [u8; 32],
     node: &mut [u8; 32],
@@ -74,8 +74,8 @@ pub fn open(
 
 // A piece that is read at once: the state is taken out of the arrays and put back.
 pub fn read(
-    marks: &mut [u8; 9],
-    words: &mut [u32; 7],
+    marks: &mut [u8; 10],
+    words: &mut [u32; 10],
     counts: &mut [usize; 2],
     item: &mut [u8; 32],
     bytes: &[u8],
@@ -96,8 +96,8 @@ pub fn read(
 
 // A piece, of any number of bytes. What a short piece touches comes first, so that all of it goes in registers.
 pub fn piece(
-    marks: &mut [u8; 9],
-    words: &mut [u32; 7],
+    marks: &mut [u8; 10],
+    words: &mut [u32; 10],
     counts: &mut [usize; 2],
     item: &mut [u8; 32],
     bytes: &[u8],
@@ -134,8 +134,8 @@ pub fn piece(
 
 // The end call. It leaves the closed state.
 pub fn end(
-    marks: &mut [u8; 9],
-    words: &mut [u32; 7],
+    marks: &mut [u8; 10],
+    words: &mut [u32; 10],
     counts: &mut [usize; 2],
     item: &mut [u8; 32],
     node: &mut [u8; 32],

@@ -1,5 +1,6 @@
-// The small part of the state as arrays, by the width of its numbers. marks: the stage's number, the parameters, the cursor's query, layer and height,
-// the answer's number. words: the cursor's start, the walk's five numbers, the answer's place. counts: the fill, and the cursor's coefficient.
+// The small part of the state as arrays, by the width of its numbers. marks: the stage's number, the parameters, the cursor's query, layer, value and
+// height, the answer's number. words: the cursor's start, the walk's index, position, scale and folded sum, the answer's place, the leaf's values. counts: the fill, and the cursor's coefficient.
+ghost use mathlib.Core.List.{_++_};
 ghost use mathlib.Core.Path.{_≡_};
 ghost use lib.ListN.{length};
 ghost use Rattle.lent_reader.specs.Held.{numberOf, stageOf, coreOf, small, smallOf};
@@ -23,10 +24,9 @@ fn number_of(stage: Stage) -> u8
         Stage::CoefficientCount => 5,
         Stage::Coefficient => 6,
         Stage::QueryCount => 7,
-        Stage::First => 8,
-        Stage::Second => 9,
-        Stage::Sibling => 10,
-        Stage::Tail => 11,
+        Stage::Value => 8,
+        Stage::Sibling => 9,
+        Stage::Tail => 10,
     }
 }
 
@@ -42,10 +42,9 @@ fn stage_of(number: u8) -> Stage
         5 => Stage::CoefficientCount,
         6 => Stage::Coefficient,
         7 => Stage::QueryCount,
-        8 => Stage::First,
-        9 => Stage::Second,
-        10 => Stage::Sibling,
-        11 => Stage::Tail,
+        8 => Stage::Value,
+        9 => Stage::Sibling,
+        10 => Stage::Tail,
         _ => Stage::Stopped,
     }
 }
@@ -58,8 +57,8 @@ pub struct Front {
 }
 
 // The contract tells the arrays' lengths too: a caller to whom they are lent has these from nowhere else.
-pub fn front_of(marks: [u8; 9], words: [u32; 7], counts: [usize; 2]) -> Front
-    ensures { λ r. ⌜ (r ≡ frontOf marks words counts) × ((length marks ≡ 9) × ((length words ≡ 7) × (length counts ≡ 2))) ⌝ }
+pub fn front_of(marks: [u8; 10], words: [u32; 10], counts: [usize; 2]) -> Front
+    ensures { λ r. ⌜ (r ≡ frontOf marks words counts) × ((length marks ≡ 10) × ((length words ≡ 10) × (length counts ≡ 2))) ⌝ }
 {
     let stage = stage_of(marks[0]);
     Front {
@@ -70,8 +69,8 @@ pub fn front_of(marks: [u8; 9], words: [u32; 7], counts: [usize; 2]) -> Front
 }
 
 pub fn core_of(
-    marks: [u8; 9],
-    words: [u32; 7],
+    marks: [u8; 10],
+    words: [u32; 10],
     counts: [usize; 2],
     item: [u8; 32],
     node: [u8; 32],
@@ -80,11 +79,12 @@ pub fn core_of(
     ensures { λ r. ⌜ r ≡ coreOf (small marks words counts item node transcript) ⌝ }
 {
     let stage = stage_of(marks[0]);
+    let values = [words[6], words[7], words[8], words[9]];
     Core {
         stage: stage,
         answer: Answer {
-            number: marks[8],
-            place: words[6],
+            number: marks[9],
+            place: words[5],
         },
         fill: counts[0],
         item: item,
@@ -99,25 +99,44 @@ pub fn core_of(
             coefficient: counts[1],
             query: marks[5],
             layer: marks[6],
-            height: marks[7],
+            value: marks[7],
+            height: marks[8],
         },
         walk: Walk {
             index: words[1],
             position: words[2],
-            first: words[3],
-            scale: words[4],
-            folded: words[5],
+            values: values,
+            scale: words[3],
+            folded: words[4],
             node: node,
         },
         transcript: transcript,
     }
 }
 
+// The words: six numbers, then the leaf's values.
+fn joined(front: [u32; 6], values: [u32; 4]) -> [u32; 10]
+    ensures { λ r. ⌜ r ≡ front ++ values ⌝ }
+{
+    [
+        front[0],
+        front[1],
+        front[2],
+        front[3],
+        front[4],
+        front[5],
+        values[0],
+        values[1],
+        values[2],
+        values[3],
+    ]
+}
+
 // Puts the small part into the arrays, whatever they held.
 pub fn keep(
     c: Core,
-    marks: &mut [u8; 9],
-    words: &mut [u32; 7],
+    marks: &mut [u8; 10],
+    words: &mut [u32; 10],
     counts: &mut [usize; 2],
     item: &mut [u8; 32],
     node: &mut [u8; 32],
@@ -135,22 +154,24 @@ pub fn keep(
         c.params.q,
         c.cursor.query,
         c.cursor.layer,
+        c.cursor.value,
         c.cursor.height,
         c.answer.number,
     ];
-    *words = [
+    let walk = c.walk;
+    let values = walk.values;
+    let front = [
         c.cursor.start,
         c.walk.index,
         c.walk.position,
-        c.walk.first,
         c.walk.scale,
         c.walk.folded,
         c.answer.place,
     ];
+    *words = joined(front, values);
     *counts = [c.fill, c.cursor.coefficient];
     let last = c.item;
     *item = last;
-    let walk = c.walk;
     let above = walk.node;
     *node = above;
     let state = c.transcript;

@@ -11,6 +11,7 @@ use Rattle.answer.specs.Table.{answered, open-so-far, accepted}
 use Rattle.message.specs.Bytes.{le, part, joined, words}
 use Rattle.message.specs.Message.{Digest}
 use Rattle.message.proofs.Bytes.{Bytes, Sized, sized, le-length, part-at, part-part, joined-at, joined-length}
+use Rattle.message.proofs.MessageLaws.{words-length}
 use Rattle.params.specs.declared.Params.{Params}
 use Rattle.params.specs.Parameters.{Valid, headerSize, header, finalCount, openingLength, queryLength, queriesOffset, openingOffset, fileLength}
 use Rattle.params.proofs.ParameterLaws.{valid-test}
@@ -39,10 +40,9 @@ opening-size p j o form =
       arith,
       digests,
       form .sibling-count,
-      le-length 4 (o .first),
-      le-length 4 (o .second),
-      length-append (le 4 (o .first)) (le 4 (o .second) ++ joined (o .siblings)),
-      length-append (le 4 (o .second)) (joined (o .siblings)),
+      form .value-count,
+      words-length (o .values),
+      length-append (words (o .values)) (joined (o .siblings)),
     )
 
 -- The bytes of query i.

@@ -1,2 +1,3 @@
 -- Laws of parameters and lengths.
 pub mod ParameterLaws
+pub mod LeafLaws

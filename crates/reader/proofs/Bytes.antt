@@ -1,22 +1,17 @@
 -- Laws on byte strings that are compared, and on the value that an index names.
 -- Assumes nothing.
-use Prim.Native.Nat.{ℕ, _+_, _≤_, _<_, _%_}
+use Prim.Native.Nat.{ℕ, _+_, _*_, _^_, _/_, _%_, _≤_, _<_}
 use native.Mathlib.Omega.{arith}
-use native.Mathlib.Nat.{mod-eq-of-lt}
+use native.Mathlib.Nat.{mod-eq-of-lt, one-mul, div-eq-of-lt, pow-le-pow-right}
 use mathlib.Core.Path.{_≡_, refl, sym, _∙_, ap}
-use mathlib.Core.Bool.{Bool, true, false, cond, _&&_}
+use mathlib.Core.Bool.{Bool, true, false}
 use mathlib.Core.List.{List, [], _∷_}
-use lib.ListN.{length, take, drop, getD, length-drop}
+use lib.ListN.{length, take, drop, getD, length-drop, List·getD-eq-default}
 use lib.Seq.{length-take-le, getD-take, getD-drop, ext-getD}
-use lib.Dec.{eqb, ltb}
-use borrow.Author.Tests.{lt-ltb, ltb-true}
 use Rattle.params.specs.declared.Params.{Params}
-use Rattle.params.specs.Parameters.{headerSize, header}
-use Rattle.domain.specs.Domain.{half}
-use Rattle.domain.proofs.Index.{mod-half}
-use Rattle.fri.specs.Judge.{sameBytes, named}
+use Rattle.params.specs.Parameters.{headerSize, header, valuesPerLeaf, height, leafCount}
+use Rattle.fri.specs.Judge.{sameBytes, valueAt}
 use Rattle.fri.proofs.Same.{same-self, same-equal}
-use Rattle.reader.proofs.Laws.{taken}
 
 same-differ : (a b : List ℕ) (i : ℕ) → (getD a i 0 ≡ getD b i 0 → ⊥) → false ≡ sameBytes a b
 same-differ a b i h = go (sameBytes a b) refl
@@ -57,17 +52,40 @@ header-same {h} d p e fits each = sym (rw same (same-self (header p)))
         let l′ : i < headerSize = omega (arith, length-take-le headerSize d fits) in
         getD-take headerSize d i 0 l′ ∙ each i l′ ∙ ap (λ (x : List ℕ). getD x i 0) e)
 
--- An index names the first value where it is its own leaf, else the second.
-pub names-first : {leaf : ℕ} (p : Params) (j m a c : ℕ) → leaf ≡ m % half (p .n) j → leaf ≡ m → a ≡ named p j m a c
-unfolding named
-names-first p j m a c e same =
-    let below : m < half (p .n) j = omega (arith, mod-half (p .n) j m) in
-    taken _ (lt-ltb _ _ below)
+-- Of a leaf's values in an array, the one that an index names, as code works it out.
+pub entry-shifted : {bits : ℕ} (p : Params) (j : ℕ) → bits ≡ height p j → bits < 32 → 1 * 2 ^ bits % 18446744073709551616 ≡ leafCount p j
+entry-shifted {bits} p j e h =
+    let small : 2 ^ bits ≤ 2 ^ 31 = pow-le-pow-right {n = 2} (omega arith) {i = bits} {j = 31} (omega arith) in
+    rw one-mul (mod-eq-of-lt (omega arith)) ∙ ap (λ (k : ℕ). 2 ^ k) e
 
-pub names-second : {leaf : ℕ} (p : Params) (j m a c : ℕ) → leaf ≡ m % half (p .n) j → (leaf ≡ m → ⊥) → c ≡ named p j m a c
-unfolding named
-names-second p j m a c e differ = go (ltb m (half (p .n) j)) refl
-  where
-    go : (t : Bool) → ltb m (half (p .n) j) ≡ t → c ≡ cond t a c
-    go true q = absurd (differ (e ∙ mod-eq-of-lt (ltb-true _ _ q)))
-    go false q = refl
+pub entry-large : {bits : ℕ} (p : Params) (j i : ℕ) → bits ≡ height p j → 32 ≤ bits → i < 2 ^ 32 → 0 ≡ i / leafCount p j
+entry-large {bits} p j i e h l =
+    let large : 2 ^ 32 ≤ 2 ^ height p j = pow-le-pow-right {n = 2} (omega arith) {i = 32} {j = height p j} (omega arith) in
+    sym (div-eq-of-lt (omega arith))
+
+pub names-value : {entry : ℕ} (p : Params) (j m : ℕ) (values : List ℕ) → entry ≡ m / leafCount p j → entry < valuesPerLeaf p
+    → getD values entry 0 ≡ valueAt p j m (take (valuesPerLeaf p) values)
+unfolding valueAt
+names-value {entry} p j m values e h =
+    sym (ap (λ (i : ℕ). getD (take (valuesPerLeaf p) values) i 0) (sym e) ∙ getD-take (valuesPerLeaf p) values entry 0 h)
+
+pub names-none : {entry : ℕ} (p : Params) (j m : ℕ) (values : List ℕ) → entry ≡ m / leafCount p j → valuesPerLeaf p ≤ entry → length values ≡ 4
+    → 0 ≡ valueAt p j m (take (valuesPerLeaf p) values)
+unfolding valueAt
+names-none {entry} p j m values e h long =
+    sym (List·getD-eq-default (take (valuesPerLeaf p) values) 0 {n = m / leafCount p j}
+    (omega (arith, length-take-le (valuesPerLeaf p) values (omega arith))))
+
+-- The leaf's first two values in an array.
+pub first-of : (values : List ℕ) → getD (take 2 values) 0 0 ≡ getD values 0 0
+first-of values = getD-take 2 values 0 0 (omega arith)
+
+pub second-of : (values : List ℕ) → getD (take 2 values) 1 0 ≡ getD values 1 0
+second-of values = getD-take 2 values 1 0 (omega arith)
+
+-- A test against a number that is told by another name.
+pub less-as : {a b d : ℕ} → a < b → b ≡ d → a < d
+less-as h e = omega arith
+
+pub not-less-as : {a b d : ℕ} → b ≤ a → b ≡ d → d ≤ a
+not-less-as h e = omega arith

@@ -12,7 +12,7 @@ use lib.Dec.{lit≤, ltb}
 use borrow.Author.Tests.{lt-ltb, le-ltb, ltb-true, ltb-false}
 use Rattle.message.specs.Message.{Digest}
 use Rattle.reader_model.specs.declared.Stage.{Stage}
-use Rattle.reader_model.specs.declared.Stage.the-variants.{ParameterCount, Parameters, RootCount, Root, CoefficientCount, Coefficient, QueryCount, First, Second, Sibling, Tail, Stopped}
+use Rattle.reader_model.specs.declared.Stage.the-variants.{ParameterCount, Parameters, RootCount, Root, CoefficientCount, Coefficient, QueryCount, Value, Sibling, Tail, Stopped}
 use Rattle.reader_model.specs.declared.Core.{Core}
 use Rattle.reader_model.specs.declared.Reader.{Reader}
 use Rattle.reader_model.specs.State.{itemLength, withCore, withItem}
@@ -32,8 +32,7 @@ item-fits Root = lit≤ tt
 item-fits CoefficientCount = lit≤ tt
 item-fits Coefficient = lit≤ tt
 item-fits QueryCount = lit≤ tt
-item-fits First = lit≤ tt
-item-fits Second = lit≤ tt
+item-fits Value = lit≤ tt
 item-fits Sibling = lit≤ tt
 item-fits Tail = lit≤ tt
 item-fits Stopped = lit≤ tt

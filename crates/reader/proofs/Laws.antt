@@ -12,7 +12,7 @@ use Rattle.answer.specs.Table.{answered, closed}
 use Rattle.sha256.specs.Sha256.{sha256}
 use Rattle.params.specs.Parameters.{height}
 use Rattle.reader_model.specs.declared.Stage.{Stage}
-use Rattle.reader_model.specs.declared.Stage.the-variants.{ParameterCount, Parameters, RootCount, Root, CoefficientCount, Coefficient, QueryCount, First, Second, Sibling, Tail, Stopped}
+use Rattle.reader_model.specs.declared.Stage.the-variants.{ParameterCount, Parameters, RootCount, Root, CoefficientCount, Coefficient, QueryCount, Value, Sibling, Tail, Stopped}
 use Rattle.reader_model.specs.declared.Core.{Core}
 use Rattle.reader_model.specs.declared.Tables.{Tables}
 use Rattle.reader_model.specs.declared.Reader.{Reader}
@@ -51,7 +51,8 @@ sane-bounds c e0 =
       coefficient = ltb-true _ _ (and-fst (ltb (c .cursor .coefficient) 64) _ e2);
       query = ltb-true _ _ (and-fst (ltb (c .cursor .query) 128) _ e3);
       layer = ltb-true _ _ (and-fst (ltb (c .cursor .layer) 16) _ e4);
-      height = ltb-true _ _ e5;
+      value = ltb-true _ _ (and-fst (ltb (c .cursor .value) 4) _ e5);
+      height = ltb-true _ _ (and-snd (ltb (c .cursor .value) 4) _ e5);
     }
 
 -- And those of its place.
@@ -90,8 +91,7 @@ sibling-stage Root e = absurd (false≢true e)
 sibling-stage CoefficientCount e = absurd (false≢true e)
 sibling-stage Coefficient e = absurd (false≢true e)
 sibling-stage QueryCount e = absurd (false≢true e)
-sibling-stage First e = absurd (false≢true e)
-sibling-stage Second e = absurd (false≢true e)
+sibling-stage Value e = absurd (false≢true e)
 sibling-stage Sibling e = refl
 sibling-stage Tail e = absurd (false≢true e)
 sibling-stage Stopped e = absurd (false≢true e)

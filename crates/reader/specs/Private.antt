@@ -5,7 +5,7 @@ use lib.Dec.{ltb}
 use Rattle.sha256.specs.Sha256.{sha256}
 use Rattle.params.specs.Parameters.{height}
 use Rattle.reader_model.specs.declared.Stage.{Stage}
-use Rattle.reader_model.specs.declared.Stage.the-variants.{ParameterCount, Parameters, RootCount, Root, CoefficientCount, Coefficient, QueryCount, First, Second, Sibling, Tail, Stopped}
+use Rattle.reader_model.specs.declared.Stage.the-variants.{ParameterCount, Parameters, RootCount, Root, CoefficientCount, Coefficient, QueryCount, Value, Sibling, Tail, Stopped}
 use Rattle.reader_model.specs.declared.Core.{Core}
 use Rattle.reader_model.specs.declared.Tables.{Tables}
 use Rattle.reader_model.specs.declared.Reader.{Reader}
@@ -19,6 +19,7 @@ pub record Sane (c : Core) : Type 0 where
   pub coefficient : c .cursor .coefficient < 64
   pub query : c .cursor .query < 128
   pub layer : c .cursor .layer < 16
+  pub value : c .cursor .value < 4
   pub height : c .cursor .height < 32
 
 -- The state after a whole item of a sane state.
@@ -33,8 +34,7 @@ isSibling Root = false
 isSibling CoefficientCount = false
 isSibling Coefficient = false
 isSibling QueryCount = false
-isSibling First = false
-isSibling Second = false
+isSibling Value = false
 isSibling Sibling = true
 isSibling Tail = false
 isSibling Stopped = false

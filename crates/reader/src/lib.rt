@@ -50,8 +50,7 @@ fn dispatch(
         }
         Stage::Coefficient => sections::after_coefficient(c, coefficients),
         Stage::QueryCount => sections::after_query_count(c),
-        Stage::First => queries::after_first(c),
-        Stage::Second => queries::after_second(c, challenges),
+        Stage::Value => queries::after_value(c, challenges),
         Stage::Sibling => queries::after_sibling(c, roots, coefficients),
         Stage::Tail => state::refuse(c, answer::BYTE_AFTER_THE_END),
         Stage::Stopped => c,

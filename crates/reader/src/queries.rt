@@ -1,11 +1,12 @@
-// What the items of the queries do: the two values of an opening, and its siblings up to the root.
+// What the items of the queries do: the values of an opening, and its siblings up to the root.
 ghost use mathlib.Core.Path.{_≡_};
-ghost use Prim.Native.Nat.{_+_, _*_, _<_, _%_};
+ghost use Prim.Native.Nat.{_+_, _*_, _<_, _%_, _/_};
 ghost use lib.ListN.{length, take, drop};
 ghost use Rattle.sha256.specs.Sha256.{sha256};
 ghost use Rattle.merkle.specs.Merkle.{join};
-ghost use Rattle.fri.specs.Judge.{sameBytes, named};
-ghost use Rattle.reader_model.specs.Items.{afterFirst, linked, atLeaf, afterSecond, climbed, finished, nextQuery, nextLayer, afterPath, afterSibling};
+ghost use Rattle.params.specs.Parameters.{leafCount};
+ghost use Rattle.fri.specs.Judge.{sameBytes, valueAt};
+ghost use Rattle.reader_model.specs.Items.{leafOf, linked, atLeaf, afterLeaf, afterValue, climbed, finished, nextQuery, nextLayer, afterPath, afterSibling};
 ghost use Rattle.reader.specs.Private.{Sane, goesOn, risen};
 use crate::sections::at_query;
 use crate::state::is_sane;
@@ -13,81 +14,106 @@ use crate::state::is_sibling;
 use crate::state::moved;
 use crate::state::refuse;
 use field::Felt;
+use params::Params;
 use reader_model::Core;
 use reader_model::Stage;
 use reader_model::Walk;
 
-// The first value is kept until the second one is there.
-pub fn after_first(c: Core) -> Core
-    requires { ⌜ Sane c ⌝ }
-    ensures { λ r. ⌜ r ≡ afterFirst c ⌝ }
+// Which of a leaf's values an index names.
+fn entry_of(p: Params, layer: u8, index: u32) -> u32
+    ensures { λ r. ⌜ r ≡ index / leafCount p layer ⌝ }
 {
-    let item = c.item;
-    let value = message::first_number(item);
-    if Felt::MODULUS <= value {
-        return refuse(c, answer::NOT_BELOW_MODULUS);
+    let bits = params::height(p, layer);
+    if bits < 32 {
+        let size = 1u64 << bits;
+        (index as u64 / size) as u32
+    } else {
+        0
     }
-    let mut next = c;
-    next.walk.first = value;
-    moved(next, Stage::Second)
 }
 
-// Of the two values, the one that the index names: the first where the index is its own leaf.
-fn named_value(c: Core, second: u32) -> u32
-    ensures { λ r. ⌜ r ≡ named (c .params) (c .cursor .layer) (c .walk .index) (c .walk .first) second ⌝ }
+// Of the leaf's values, the one that the index names.
+fn named_value(c: Core, values: [u32; 4]) -> u32
+    ensures { λ r. ⌜ r ≡ valueAt (c .params) (c .cursor .layer) (c .walk .index) (leafOf c values) ⌝ }
 {
-    let index = c.walk.index;
-    let leaf = domain::leaf_of(c.params.n, c.cursor.layer, index);
-    if leaf == index { c.walk.first } else { second }
+    let params = c.params;
+    let entry = entry_of(params, c.cursor.layer, c.walk.index) as usize;
+    if entry < params::values_per_leaf(params) {
+        values[entry]
+    } else {
+        0
+    }
 }
 
 // Whether the value that the index names is the folded one.
-fn is_linked(c: Core, second: u32) -> bool
-    ensures { λ r. ⌜ r ≡ linked c second ⌝ }
+fn is_linked(c: Core, values: [u32; 4]) -> bool
+    ensures { λ r. ⌜ r ≡ linked c values ⌝ }
 {
-    let value = named_value(c, second);
+    let value = named_value(c, values);
     fold::agrees(c.walk.scale, c.walk.folded, value)
 }
 
 // The walk at its leaf.
-fn at_leaf(c: Core, challenge: u32, second: u32) -> Walk
-    ensures { λ r. ⌜ r ≡ atLeaf sha256 c challenge second ⌝ }
+fn at_leaf(c: Core, challenge: u32, values: [u32; 4]) -> Walk
+    ensures { λ r. ⌜ r ≡ atLeaf sha256 c challenge values ⌝ }
 {
-    let first = c.walk.first;
+    let params = c.params;
     let leaf = domain::leaf_of(c.params.n, c.cursor.layer, c.walk.index);
     let x = domain::point(c.params.n, c.cursor.layer, leaf);
     let scale = fold::scale(x);
-    let folded = fold::folded(x, challenge, first, second);
-    let node = merkle::leaf([first, second, 0, 0], 2);
+    let folded = fold::folded(x, challenge, values[0], values[1]);
+    let node = merkle::leaf(values, params::values_per_leaf(params));
     Walk {
         index: leaf,
         position: leaf,
-        first: first,
+        values: values,
         scale: scale,
         folded: folded,
         node: node,
     }
 }
 
-// Both values are there: the one that the index names must be the folded one, and the leaf is hashed.
-pub fn after_second(c: Core, challenges: &[u32; 16]) -> Core
+// All values of the leaf are there: the one that the index names must be the folded one, and the leaf is hashed.
+fn after_leaf(c: Core, challenges: &[u32; 16], values: [u32; 4]) -> Core
     requires { ⌜ Sane c ⌝ }
-    ensures { λ r. ⌜ r ≡ afterSecond sha256 c (now (challenges .entry)) ⌝ }
+    ensures { λ r. ⌜ r ≡ afterLeaf sha256 c (now (challenges .entry)) values ⌝ }
+{
+    if is_linked(c, values) {
+        let layer = c.cursor.layer as usize;
+        let challenge = challenges[layer];
+        let walk = at_leaf(c, challenge, values);
+        let mut next = c;
+        next.walk = walk;
+        moved(next, Stage::Sibling)
+    } else {
+        refuse(c, answer::NOT_THE_FOLDED_VALUE)
+    }
+}
+
+// A value is kept until the leaf's last one is there.
+pub fn after_value(c: Core, challenges: &[u32; 16]) -> Core
+    requires { ⌜ Sane c ⌝ }
+    ensures { λ r. ⌜ r ≡ afterValue sha256 c (now (challenges .entry)) ⌝ }
 {
     let item = c.item;
     let value = message::first_number(item);
     if Felt::MODULUS <= value {
         return refuse(c, answer::NOT_BELOW_MODULUS);
     }
-    if is_linked(c, value) {
-        let layer = c.cursor.layer as usize;
-        let challenge = challenges[layer];
-        let walk = at_leaf(c, challenge, value);
+    let mut walk = c.walk;
+    let mut values = walk.values;
+    let at = c.cursor.value as usize;
+    values[at] = value;
+    let params = c.params;
+    let after = c.cursor.value + 1;
+    if (after as usize) < params::values_per_leaf(params) {
+        walk.values = values;
         let mut next = c;
         next.walk = walk;
-        moved(next, Stage::Sibling)
+        next.cursor.value = after;
+        moved(next, Stage::Value)
     } else {
-        refuse(c, answer::NOT_THE_FOLDED_VALUE)
+        after_leaf(c, challenges, values)
     }
 }
 
@@ -152,7 +178,7 @@ fn next_query(c: Core) -> Core
     let after = c.cursor.query + 1;
     if after < c.params.q {
         let next = at_query(c, after);
-        moved(next, Stage::First)
+        moved(next, Stage::Value)
     } else {
         moved(c, Stage::Tail)
     }
@@ -167,8 +193,9 @@ fn next_layer(c: Core, coefficients: &[u32; 64]) -> Core
     if above < c.params.k {
         let mut next = c;
         next.cursor.layer = above;
+        next.cursor.value = 0;
         next.cursor.height = 0;
-        return moved(next, Stage::First);
+        return moved(next, Stage::Value);
     }
     if is_final(c, coefficients) {
         next_query(c)

@@ -90,6 +90,7 @@ pub fn after_root(c: Core, roots: &mut [u8; 512], challenges: &mut [u32; 16]) ->
     challenges[at] = challenge;
     let mut next = c;
     next.transcript = transcript;
+    next.cursor.value = 0;
     next.cursor.height = 0;
     let above = layer + 1;
     if above < c.params.k {
@@ -149,13 +150,13 @@ pub fn at_query(c: Core, query: u8) -> Core
     let mut walk = c.walk;
     walk.index = index;
     walk.position = 0;
-    walk.first = 0;
     walk.scale = 0;
     walk.folded = 0;
     let mut next = c;
     next.walk = walk;
     next.cursor.query = query;
     next.cursor.layer = 0;
+    next.cursor.value = 0;
     next.cursor.height = 0;
     next
 }
@@ -169,7 +170,7 @@ pub fn after_query_count(c: Core) -> Core
     let count = message::first_count(item);
     if count == c.params.q as u32 {
         let next = at_query(c, 0);
-        moved(next, Stage::First)
+        moved(next, Stage::Value)
     } else {
         refuse(c, answer::COUNT_DIFFERS)
     }

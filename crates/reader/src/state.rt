@@ -27,8 +27,7 @@ pub fn item_length(stage: Stage) -> usize
         Stage::CoefficientCount => 2,
         Stage::Coefficient => 4,
         Stage::QueryCount => 2,
-        Stage::First => 4,
-        Stage::Second => 4,
+        Stage::Value => 4,
         Stage::Sibling => 32,
         Stage::Tail => 1,
         Stage::Stopped => 0,
@@ -46,8 +45,7 @@ pub fn is_stopped(stage: Stage) -> bool
         Stage::CoefficientCount => false,
         Stage::Coefficient => false,
         Stage::QueryCount => false,
-        Stage::First => false,
-        Stage::Second => false,
+        Stage::Value => false,
         Stage::Sibling => false,
         Stage::Tail => false,
         Stage::Stopped => true,
@@ -65,8 +63,7 @@ pub fn is_sibling(stage: Stage) -> bool
         Stage::CoefficientCount => false,
         Stage::Coefficient => false,
         Stage::QueryCount => false,
-        Stage::First => false,
-        Stage::Second => false,
+        Stage::Value => false,
         Stage::Sibling => true,
         Stage::Tail => false,
         Stage::Stopped => false,
@@ -85,8 +82,7 @@ pub fn is_tail(stage: Stage) -> bool
         Stage::CoefficientCount => false,
         Stage::Coefficient => false,
         Stage::QueryCount => false,
-        Stage::First => false,
-        Stage::Second => false,
+        Stage::Value => false,
         Stage::Sibling => false,
         Stage::Tail => true,
         Stage::Stopped => false,
@@ -101,6 +97,7 @@ pub fn no_cursor() -> Cursor
         coefficient: 0,
         query: 0,
         layer: 0,
+        value: 0,
         height: 0,
     }
 }
@@ -111,7 +108,7 @@ pub fn no_walk() -> Walk
     Walk {
         index: 0,
         position: 0,
-        first: 0,
+        values: [0u32; 4],
         scale: 0,
         folded: 0,
         node: [0u8; 32],
@@ -173,7 +170,8 @@ pub fn is_sane(c: Core) -> bool
     (c.fill <= 32)
         & ((cursor.start < 2147483648)
             & ((cursor.coefficient < 64)
-                & ((cursor.query < 128) & ((cursor.layer < 16) & (cursor.height < 32)))))
+                & ((cursor.query < 128)
+                    & ((cursor.layer < 16) & ((cursor.value < 4) & (cursor.height < 32))))))
 }
 
 // At the next item, of another stage.
@@ -200,6 +198,7 @@ pub fn moved(c: Core, stage: Stage) -> Core
             coefficient: c.cursor.coefficient,
             query: c.cursor.query,
             layer: c.cursor.layer,
+            value: c.cursor.value,
             height: c.cursor.height,
         },
         walk: walk,

@@ -1,36 +1,36 @@
 -- A whole item of section 4: the model's state after it stands for what is left of the judgement after it. Assumes nothing.
 use Prim.Native.Nat.{ℕ, zero, suc, _+_, _*_, _%_, _/_, _<_}
 use mathlib.Core.List.{List, [], _∷_, _++_, append-assoc}
-use mathlib.Core.Path.{_≡_, refl, ap, ap₂, sym, _∙_, subst}
+use mathlib.Core.Path.{_≡_, refl, ap, ap₂, sym, _∙_, subst, fun-ext}
 use native.Mathlib.Numerals.{add-one}
 use native.Mathlib.Omega.{arith}
-use lib.ListN.{length, take, drop, getD, length-append}
+use lib.ListN.{length, take, drop, getD, length-append, length-set}
 use lib.Seq.{getD-at}
 use borrow.Author.Tests.{lt-ltb, le-ltb}
 use Rattle.answer.specs.Table.{not-the-folded-value, path-misses-root, misses-final-polynomial}
 use Rattle.message.specs.Message.{Digest}
-use Rattle.params.specs.Parameters.{indexBits, height}
+use Rattle.params.specs.Parameters.{indexBits, depth, valuesPerLeaf, height}
 use Rattle.domain.specs.Domain.{point}
 use Rattle.merkle.specs.Merkle.{leaf, join}
 use Rattle.transcript.specs.Transcript.{absorb, challenge, drawn, absorbed}
 use Rattle.fold.specs.Poly.{eval}
 use Rattle.fold.specs.Fold.{anything, expected, fits}
-use Rattle.fri.specs.Process.{pure, _>>_}
-use Rattle.fri.specs.Judge.{sameBytes, walk, queries}
-use Rattle.reader_model.specs.declared.Stage.the-variants.{First}
+use Rattle.fri.specs.Process.{bytes, many, pure, _>>=_, _>>_}
+use Rattle.fri.specs.Judge.{sameBytes, valueAt, number, walk, queries}
+use Rattle.reader_model.specs.declared.Stage.the-variants.{Value}
 use Rattle.reader_model.specs.declared.Core.{Core}
 use Rattle.reader_model.specs.declared.Tables.{Tables}
 use Rattle.reader_model.specs.State.{place, movedTo, withWalk}
-use Rattle.reader_model.specs.Items.{numberOf, finals, leafIndex, linked, rooted, finished, afterFirst, atQuery, atLeaf, afterSecond, climbed, nextQuery, nextLayer, afterPath, afterSibling}
-use Rattle.reader_model.proofs.Filled.{filled-take, filled-at, filled-block, challenges, challenges-append, challenges-length, absorbed-snoc}
-use Rattle.reader_model.proofs.Rest.{numbered, wanted, opening, toQueries, Late, Walking, toNext, toLayers, withNode, toSiblings, withPair, withFirst, walk-is, siblings-more, siblings-none, at-cursor, Sound, WalkingAt, first, second, sibling, After, goes, ends}
+use Rattle.reader_model.specs.Items.{numberOf, finals, valuesWith, leafOf, leafIndex, leafPoint, linked, rooted, finished, atQuery, atLeaf, afterLeaf, afterValue, climbed, nextQuery, nextLayer, afterPath, afterSibling}
+use Rattle.reader_model.proofs.Filled.{Filled, filled-set, filled-take, filled-at, filled-block, challenges, challenges-append, challenges-length, absorbed-snoc}
+use Rattle.reader_model.proofs.Rest.{numbered, wanted, opening, toQueries, Late, Walking, toNext, toLayers, withNode, toSiblings, withLeaf, withValue, walk-is, siblings-more, siblings-none, at-cursor, with-values, Sound, WalkingAt, value, sibling, After, goes, ends}
 use Rattle.reader_model.proofs.Stages.{finals-are, pred-of, leaves-as, leaves-true, leaves-false, tested, after-number}
 
 module _ (hash : List ℕ → Digest) (context : List ℕ) (c : Core) (t : Tables) (s : Sound c) where
   -- The start of a query's walk.
   pub begin-query : (roots : List Digest) (final : List ℕ) (i more : ℕ) → Late hash (c .params) context (c .transcript) t roots final
       → suc i + more ≡ c .params .q
-      → After hash context (movedTo (atQuery hash c i) First) t (place c) (toQueries hash (c .params) context roots final (suc more) i)
+      → After hash context (movedTo (atQuery hash c i) Value) t (place c) (toQueries hash (c .params) context roots final (suc more) i)
   unfolding atQuery queries _>>_ absorbed
   begin-query [] final i more l total = absurd (omega (arith, l .all-roots))
   begin-query (root ∷ after) final i more l total =
@@ -48,11 +48,12 @@ module _ (hash : List ℕ → Digest) (context : List ℕ) (c : Core) (t : Table
         earlier = opening hash (c .params) context;
         earlier-is = refl;
       } in
+      let (rest, values-are) = pred-of (valuesPerLeaf (c .params)) (omega arith) in
       leaves-as
       (goes
-      (at-cursor s (omega arith) (omega arith) (omega arith) (omega arith))
-      (first w refl) refl refl)
-      (sym (walk-is hash (c .params) context w (drawn hash (c .transcript) (indexBits (c .params)) i) anything)
+      (at-cursor s (omega arith) (omega arith) (omega arith) (omega arith) (omega arith))
+      (value w {values = []} rest refl (record { sized = s .values-size; starts = refl }) refl (omega arith)) refl refl)
+      (sym (walk-is hash (c .params) context w (drawn hash (c .transcript) (indexBits (c .params)) i) anything rest values-are)
       ∙ ap (λ u. walk hash (c .params) final 0 (drawn hash u (indexBits (c .params)) i) anything (w .earlier) (root ∷ after)
       (λ _. toNext hash (c .params) context w)) (l .transcript-is))
 
@@ -64,7 +65,7 @@ module _ (hash : List ℕ → Digest) (context : List ℕ) (c : Core) (t : Table
   next-query roots final zero l total = leaves-false _ _ (le-ltb (c .cursor .query + 1) (c .params .q) (omega arith)) (ends s refl refl refl)
   next-query roots final (suc more) l total =
       leaves-true _ _ (lt-ltb (c .cursor .query + 1) (c .params .q) (omega arith))
-      (subst (λ i. After hash context (movedTo (atQuery hash c i) First) t (place c)
+      (subst (λ i. After hash context (movedTo (atQuery hash c i) Value) t (place c)
       (toQueries hash (c .params) context roots final (suc more) (suc (c .cursor .query)))) (sym (add-one (c .cursor .query)))
       (begin-query roots final (suc (c .cursor .query)) more l (omega arith)))
 
@@ -93,34 +94,47 @@ module _ (hash : List ℕ → Digest) (context : List ℕ) (c : Core) (t : Table
         ∙ getD-at (w .before) (w .root) (w .after) [] (c .cursor .layer) (w .layer-is)
 
     finished-is : suc (c .cursor .layer) ≡ c .params .k
-        → finished c (t .coefficients) ≡ fits (wanted (c .walk)) (eval (w .final) (point (c .params .n) (suc (c .cursor .layer)) (c .walk .index)))
+        → finished c (t .coefficients) ≡ fits (wanted (c .walk)) (eval (w .final) (point (c .params .n) (depth (c .params) (suc (c .cursor .layer))) (c .walk .index)))
     unfolding finished
     finished-is e =
-        ap₂ (λ u j. fits (wanted (c .walk)) (eval u (point (c .params .n) j (c .walk .index))))
+        ap₂ (λ u j. fits (wanted (c .walk)) (eval u (point (c .params .n) (depth (c .params) j) (c .walk .index))))
         (filled-take (w .late .read .final-kept) (finals c) (w .late .all-final ∙ sym (finals-are c s))) (sym e)
 
-    -- The first value, and the second.
-    pub after-first : c .cursor .height ≡ 0
-        → After hash context (afterFirst c) t (place c)
-        (numbered (withFirst hash (c .params) context w (c .walk .index) (wanted (c .walk))) (take 4 (c .item)))
-    unfolding afterFirst
-    after-first h = after-number c t (withFirst hash (c .params) context w (c .walk .index) (wanted (c .walk))) (λ _. goes s (second w h) refl refl)
-
-    pub after-second : c .cursor .height ≡ 0
-        → After hash context (afterSecond hash c (t .challenges)) t (place c)
-        (numbered (withPair hash (c .params) context w (c .walk .index) (wanted (c .walk)) (c .walk .first)) (take 4 (c .item)))
-    unfolding afterSecond linked atLeaf
-    after-second h =
+    -- A value after these, with as many more after it.
+    pub after-value : {values : List ℕ} (more : ℕ) → c .cursor .height ≡ 0 → Filled 4 values (c .walk .values) → length values ≡ c .cursor .value
+        → length values + suc more ≡ valuesPerLeaf (c .params)
+        → After hash context (afterValue hash c (t .challenges)) t (place c)
+        (numbered (withValue hash (c .params) context w (c .walk .index) (wanted (c .walk)) values more) (take 4 (c .item)))
+    unfolding afterValue afterLeaf linked atLeaf many number pure _>>=_ _>>_ bytes
+    after-value {values} zero h f e total =
         let (left, height-is) = pred-of (height (c .params) (c .cursor .layer)) (omega (arith, layers-are)) in
-        let x = point (c .params .n) (c .cursor .layer) (leafIndex c) in
-        let node = leaf hash (c .walk .first ∷ numberOf c ∷ []) in
+        let all : leafOf c (valuesWith c) ≡ values ++ numberOf c ∷ [] =
+        filled-take (filled-set f (c .cursor .value) (numberOf c) e (omega arith)) (valuesPerLeaf (c .params)) (rw length-append (omega arith)) in
         let β = getD (t .challenges) (c .cursor .layer) 0 in
-        after-number c t (withPair hash (c .params) context w (c .walk .index) (wanted (c .walk)) (c .walk .first)) (λ _.
-        tested c _ _ not-the-folded-value _ refl (λ _.
-        leaves-as (goes s (sibling w left (omega arith)) refl refl)
-        (sym (siblings-more hash (c .params) context w (leafIndex c) (expected x β (c .walk .first) (numberOf c)) left node (leafIndex c))
-        ∙ ap₂ (λ u d. toSiblings hash (c .params) context w (leafIndex c) (expected x u (c .walk .first) (numberOf c)) d node (leafIndex c))
-        challenge-is (sym height-is))))
+        let vs = leafOf c (valuesWith c) in
+        after-number c t (withValue hash (c .params) context w (c .walk .index) (wanted (c .walk)) values zero) (λ _.
+        leaves-false _ _ (le-ltb (c .cursor .value + 1) (valuesPerLeaf (c .params)) (omega arith))
+        (tested c _ _ not-the-folded-value _
+        (ap (λ u. fits (wanted (c .walk)) (valueAt (c .params) (c .cursor .layer) (c .walk .index) u)) all) (λ _.
+        leaves-as (goes (with-values s (length-set (c .walk .values) (c .cursor .value) (numberOf c) ∙ s .values-size)) (sibling w left (omega arith)) refl refl)
+        (sym (siblings-more hash (c .params) context w (leafIndex c) (expected (leafPoint c) β vs) left (leaf hash vs) (leafIndex c))
+        ∙ ap₂ (λ u d. toSiblings hash (c .params) context w (leafIndex c) (expected (leafPoint c) u vs) d (leaf hash vs) (leafIndex c))
+        challenge-is (sym height-is)
+        ∙ ap (λ u. toSiblings hash (c .params) context w (leafIndex c)
+        (expected (leafPoint c) (challenge hash (absorb hash (w .earlier) (w .root))) u) (height (c .params) (c .cursor .layer)) (leaf hash u) (leafIndex c))
+        all))))
+    after-value {values} (suc more) h f e total =
+        after-number c t (withValue hash (c .params) context w (c .walk .index) (wanted (c .walk)) values (suc more)) (λ _.
+        leaves-true _ _ (lt-ltb (c .cursor .value + 1) (valuesPerLeaf (c .params)) (omega arith))
+        (leaves-as
+        (goes
+        (at-cursor (with-values s (length-set (c .walk .values) (c .cursor .value) (numberOf c) ∙ s .values-size)) (omega arith) (omega arith) (omega arith)
+        (omega arith) (omega arith))
+        (value w {values = values ++ numberOf c ∷ []} more h (filled-set f (c .cursor .value) (numberOf c) e (omega arith)) (rw length-append (omega arith))
+        (rw length-append (omega arith)))
+        refl refl)
+        (ap (many (suc more) number) (fun-ext (λ rest.
+        ap (withLeaf hash (c .params) context w (c .walk .index) (wanted (c .walk))) (append-assoc values (numberOf c ∷ []) rest))))))
 
     -- The end of a layer.
     next-layer : After hash context (nextLayer hash c (t .coefficients)) t (place c)
@@ -154,12 +168,13 @@ module _ (hash : List ℕ → Digest) (context : List ℕ) (c : Core) (t : Table
                   ap (λ u. absorb hash u (w .root)) (w .earlier-is)
                   ∙ sym (absorbed-snoc hash (opening hash (c .params) context) (w .before) (w .root));
             } in
+            let (rest, values-are) = pred-of (valuesPerLeaf (c .params)) (omega arith) in
             leaves-true _ _ (lt-ltb (c .cursor .layer + 1) (c .params .k) (omega arith))
             (leaves-as
             (goes
-            (at-cursor s (omega arith) (omega arith) (omega arith) (omega arith))
-            (first w′ refl) refl refl)
-            (sym (walk-is hash (c .params) context w′ (c .walk .index) (wanted (c .walk)))
+            (at-cursor s (omega arith) (omega arith) (omega arith) (omega arith) (omega arith))
+            (value w′ {values = []} rest refl (record { sized = s .values-size; starts = refl }) refl (omega arith)) refl refl)
+            (sym (walk-is hash (c .params) context w′ (c .walk .index) (wanted (c .walk)) rest values-are)
             ∙ ap (λ j. walk hash (c .params) (w .final) j (c .walk .index) (wanted (c .walk)) (w′ .earlier) (root ∷ after)
             (λ _. toNext hash (c .params) context w)) (add-one (c .cursor .layer))))
 
@@ -184,6 +199,6 @@ module _ (hash : List ℕ → Digest) (context : List ℕ) (c : Core) (t : Table
       leaves-true _ _ (lt-ltb (c .cursor .height + 1) (height (c .params) (c .cursor .layer)) (omega arith))
       (leaves-as
       (goes
-      (at-cursor s (omega arith) (omega arith) (omega arith) (omega arith))
+      (at-cursor s (omega arith) (omega arith) (omega arith) (omega arith) (omega arith))
       (sibling w more (omega arith)) refl refl)
       (sym (siblings-more hash (c .params) context w (c .walk .index) (wanted (c .walk)) more (climbed hash c .node) (c .walk .position / 2))))

@@ -1,7 +1,7 @@
 -- What is left of the judgement at each stage, by name, and what a state must hold for it. Assumes nothing.
 use Prim.Native.Nat.{ℕ, zero, suc, _+_, _%_, _/_, _<_}
 use mathlib.Core.List.{List, [], _∷_, _++_}
-use mathlib.Core.Path.{_≡_, refl}
+use mathlib.Core.Path.{_≡_, refl, ap}
 use lib.Dec.{ltb, eqb}
 use lib.ListN.{length}
 use Rattle.answer.specs.Table.{answered, count-differs, parameters-differ, not-below-modulus, not-the-folded-value, path-misses-root}
@@ -10,15 +10,15 @@ use Rattle.message.specs.Bytes.{num, joined}
 use Rattle.message.specs.Message.{Digest}
 use Rattle.message.proofs.Bytes.{Sized}
 use Rattle.params.specs.declared.Params.{Params}
-use Rattle.params.specs.Parameters.{Valid, headerSize, header, finalCount, height}
-use Rattle.domain.specs.Domain.{half, point}
+use Rattle.params.specs.Parameters.{Valid, headerSize, header, finalCount, depth, valuesPerLeaf, height, leafCount}
+use Rattle.domain.specs.Domain.{point}
 use Rattle.merkle.specs.Merkle.{climb, leaf, join}
 use Rattle.transcript.specs.Transcript.{start, absorb, challenge, finish, absorbed}
 use Rattle.fold.specs.Fold.{Expected, expected, fits}
 use Rattle.fri.specs.Process.{Process, bytes, ensure, many, pure, _>>=_, _>>_, done, fail, need}
-use Rattle.fri.specs.Judge.{sameBytes, named, count, number, walk, queries, sections, judgement}
+use Rattle.fri.specs.Judge.{sameBytes, valueAt, count, number, walk, queries, sections, judgement}
 use Rattle.reader_model.specs.declared.Stage.{Stage}
-use Rattle.reader_model.specs.declared.Stage.the-variants.{ParameterCount, Parameters, RootCount, Root, CoefficientCount, Coefficient, QueryCount, First, Second, Sibling, Tail}
+use Rattle.reader_model.specs.declared.Stage.the-variants.{ParameterCount, Parameters, RootCount, Root, CoefficientCount, Coefficient, QueryCount, Value, Sibling, Tail}
 use Rattle.reader_model.specs.declared.Cursor.{Cursor}
 use Rattle.reader_model.specs.declared.Walk.{Walk}
 use Rattle.reader_model.specs.declared.Core.{Core}
@@ -122,21 +122,21 @@ module _ (hash : List ℕ → Digest) (p : Params) (context : List ℕ) where
     abbrev pub toSiblings : ℕ → Expected → ℕ → Digest → ℕ → Process
     toSiblings m e count node position = many count (bytes 32) (λ siblings. withNode m e (climb hash node position siblings))
 
-    -- With both values of the layer, and with the first one, at the index m, where they must meet e.
-    abbrev pub withPair : ℕ → Expected → ℕ → ℕ → Process
-    withPair m e a c =
-        ensure (fits e (named p layer m a c)) not-the-folded-value
-        (λ _. toSiblings (m % half (p .n) layer)
-        (expected (point (p .n) layer (m % half (p .n) layer)) (challenge hash (absorb hash (w .earlier) (w .root))) a c)
-        (height p layer) (leaf hash (a ∷ c ∷ [])) (m % half (p .n) layer))
+    -- With the values of the layer's leaf, at the index m, where they must meet e; and with a value after these, so many more to come.
+    abbrev pub withLeaf : ℕ → Expected → List ℕ → Process
+    withLeaf m e values =
+        ensure (fits e (valueAt p layer m values)) not-the-folded-value
+        (λ _. toSiblings (m % leafCount p layer)
+        (expected (point (p .n) (depth p layer) (m % leafCount p layer)) (challenge hash (absorb hash (w .earlier) (w .root))) values)
+        (height p layer) (leaf hash values) (m % leafCount p layer))
 
-    abbrev pub withFirst : ℕ → Expected → ℕ → Process
-    withFirst m e a = need 4 (numbered (withPair m e a))
+    abbrev pub withValue : ℕ → Expected → List ℕ → ℕ → ℕ → Process
+    withValue m e values more v = many more number (λ rest. withLeaf m e (values ++ v ∷ rest))
 
-    pub walk-is : (m : ℕ) (e : Expected)
-        → walk hash p (w .final) layer m e (w .earlier) (w .root ∷ w .after) (λ _. toNext) ≡ need 4 (numbered (withFirst m e))
-    unfolding walk number _>>=_ _>>_ bytes pure
-    walk-is m e = refl
+    pub walk-is : (m : ℕ) (e : Expected) (more : ℕ) → valuesPerLeaf p ≡ suc more
+        → walk hash p (w .final) layer m e (w .earlier) (w .root ∷ w .after) (λ _. toNext) ≡ need 4 (numbered (withValue m e [] more))
+    unfolding walk number many _>>=_ _>>_ bytes pure
+    walk-is m e more h = ap (λ n. many n number (λ values. withLeaf m e values)) h
 
     pub siblings-more : (m : ℕ) (e : Expected) (count : ℕ) (node : Digest) (position : ℕ)
         → toSiblings m e (suc count) node position ≡ need 32 (λ x. toSiblings m e count (join hash (position % 2) node x) (position / 2))
@@ -148,22 +148,48 @@ module _ (hash : List ℕ → Digest) (p : Params) (context : List ℕ) where
     siblings-none m e node position = refl
 
 -- The bounds of every state that is not stopped. They are stated of its parts, so that a step which keeps the parts keeps the bounds.
-pub record Bounds (p : Params) (item : List ℕ) (coefficient query layer height : ℕ) : Type 0 where
+pub record Bounds (p : Params) (item values : List ℕ) (coefficient query layer value height : ℕ) : Type 0 where
   pub valid : Valid p
   pub item-size : length item ≡ 32
+  pub values-size : length values ≡ 4
   pub coefficient-low : coefficient < 64
   pub query-low : query < 128
   pub layer-low : layer < 16
+  pub value-low : value < 4
   pub height-low : height < 32
 
--- The same at another cursor.
-pub at-cursor : {p : Params} {item : List ℕ} {i j k h coefficient query layer height : ℕ} → Bounds p item i j k h
-    → coefficient < 64 → query < 128 → layer < 16 → height < 32 → Bounds p item coefficient query layer height
-at-cursor s a b c d =
-    record { valid = s .valid; item-size = s .item-size; coefficient-low = a; query-low = b; layer-low = c; height-low = d }
+-- The same at another cursor, and with other values.
+pub at-cursor : {p : Params} {item values : List ℕ} {i j k r h coefficient query layer value height : ℕ} → Bounds p item values i j k r h
+    → coefficient < 64 → query < 128 → layer < 16 → value < 4 → height < 32 → Bounds p item values coefficient query layer value height
+at-cursor s a b c d e =
+    record {
+      valid = s .valid;
+      item-size = s .item-size;
+      values-size = s .values-size;
+      coefficient-low = a;
+      query-low = b;
+      layer-low = c;
+      value-low = d;
+      height-low = e;
+    }
+
+pub with-values : {p : Params} {item values values′ : List ℕ} {i j k r h : ℕ} → Bounds p item values i j k r h → length values′ ≡ 4
+    → Bounds p item values′ i j k r h
+with-values s e =
+    record {
+      valid = s .valid;
+      item-size = s .item-size;
+      values-size = e;
+      coefficient-low = s .coefficient-low;
+      query-low = s .query-low;
+      layer-low = s .layer-low;
+      value-low = s .value-low;
+      height-low = s .height-low;
+    }
 
 abbrev pub Sound : Core → Type 0
-Sound c = Bounds (c .params) (c .item) (c .cursor .coefficient) (c .cursor .query) (c .cursor .layer) (c .cursor .height)
+Sound c =
+    Bounds (c .params) (c .item) (c .walk .values) (c .cursor .coefficient) (c .cursor .query) (c .cursor .layer) (c .cursor .value) (c .cursor .height)
 
 module _ (hash : List ℕ → Digest) (context : List ℕ) where
   abbrev pub EarlyAt : Core → Tables → List Digest → List ℕ → Type 0
@@ -189,10 +215,9 @@ module _ (hash : List ℕ → Digest) (context : List ℕ) where
         → Waiting p c w transcript t Coefficient 4 (numbered (withCoefficient hash p context roots final more))
     query-count : {roots : List Digest} {final : List ℕ} → Late hash p context transcript t roots final
         → Waiting p c w transcript t QueryCount 2 (counting (p .q) (toQueries hash p context roots final (p .q) 0))
-    first : (x : Walking hash p context (c .query) (c .layer) transcript t) → c .height ≡ 0
-        → Waiting p c w transcript t First 4 (numbered (withFirst hash p context x (w .index) (wanted w)))
-    second : (x : Walking hash p context (c .query) (c .layer) transcript t) → c .height ≡ 0
-        → Waiting p c w transcript t Second 4 (numbered (withPair hash p context x (w .index) (wanted w) (w .first)))
+    value : (x : Walking hash p context (c .query) (c .layer) transcript t) {values : List ℕ} (more : ℕ) → c .height ≡ 0
+        → Filled 4 values (w .values) → length values ≡ c .value → length values + suc more ≡ valuesPerLeaf p
+        → Waiting p c w transcript t Value 4 (numbered (withValue hash p context x (w .index) (wanted w) values more))
     sibling : (x : Walking hash p context (c .query) (c .layer) transcript t) (more : ℕ) → c .height + suc more ≡ height p (c .layer)
         → Waiting p c w transcript t Sibling 32
         (λ digest. toSiblings hash p context x (w .index) (wanted w) more (join hash (w .position % 2) (w .node) digest) (w .position / 2))

@@ -110,12 +110,12 @@ module _ {hash : List ℕ → Digest} {context : List ℕ} (c : Core) (t : Table
   unfolding afterRoot many _>>=_ bytes pure
   after-root roots zero e h total =
       leaves-false _ _ (le-ltb (c .cursor .layer + 1) (c .params .k) (omega arith))
-      (goes (at-cursor s (omega arith) (omega arith) (omega arith) (omega arith))
+      (goes (at-cursor s (omega arith) (omega arith) (omega arith) (omega arith) (omega arith))
       (coefficient-count {roots = roots ++ c .item ∷ []} (read-root roots e h (omega arith)) (rw length-append (omega arith))) refl refl)
   after-root roots (suc more) e h total =
       leaves-true _ _ (lt-ltb (c .cursor .layer + 1) (c .params .k) (omega arith))
       (leaves-as
-      (goes (at-cursor s (omega arith) (omega arith) (omega arith) (omega arith))
+      (goes (at-cursor s (omega arith) (omega arith) (omega arith) (omega arith) (omega arith))
       (root {roots = roots ++ c .item ∷ []} more (read-root roots e h (omega arith)) (rw length-append (omega arith)) (rw length-append (omega arith)))
       refl refl)
       (ap (many (suc more) (bytes 32)) (fun-ext (λ rest. ap (toSection3 hash (c .params) context) (append-assoc roots (c .item ∷ []) rest)))))
@@ -143,7 +143,7 @@ module _ {hash : List ℕ → Digest} {context : List ℕ} (c : Core) (t : Table
       after-number c (kept hash Coefficient c t) (withCoefficient hash (c .params) context roots final zero) (λ low.
       let now = read-coefficient roots final e (omega arith) low in
       leaves-false _ _ (le-ltb (c .cursor .coefficient + 1) (finals c) (omega (arith, finals-are c s, e .coefficient-next)))
-      (goes (at-cursor s (omega arith) (omega arith) (omega arith) (omega arith))
+      (goes (at-cursor s (omega arith) (omega arith) (omega arith) (omega arith) (omega arith))
       (query-count {roots = roots} {final = final ++ numberOf c ∷ []} (record {
         read = now;
         transcript-is = ap₂ (finish hash) (e .transcript-is) (filled-take (now .final-kept) (finals c) long);
@@ -156,7 +156,7 @@ module _ {hash : List ℕ → Digest} {context : List ℕ} (c : Core) (t : Table
       after-number c (kept hash Coefficient c t) (withCoefficient hash (c .params) context roots final (suc more)) (λ low.
       leaves-true _ _ (lt-ltb (c .cursor .coefficient + 1) (finals c) (omega (arith, finals-are c s, e .coefficient-next)))
       (leaves-as
-      (goes (at-cursor s (omega arith) (omega arith) (omega arith) (omega arith))
+      (goes (at-cursor s (omega arith) (omega arith) (omega arith) (omega arith) (omega arith))
       (coefficient {roots = roots} {final = final ++ numberOf c ∷ []} more (record {
         read = read-coefficient roots final e (omega arith) low;
         coefficient-next = rw length-append (omega (arith, e .coefficient-next));

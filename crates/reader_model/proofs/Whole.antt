@@ -27,7 +27,7 @@ use Rattle.calls.proofs.Follows.{ShutByte}
 use Rattle.calls.proofs.Denotes.{Denotes}
 use Rattle.calls.proofs.Within.{judgement-begins}
 use Rattle.reader_model.specs.declared.Stage.{Stage}
-use Rattle.reader_model.specs.declared.Stage.the-variants.{ParameterCount, Parameters, RootCount, Root, CoefficientCount, Coefficient, QueryCount, First, Second, Sibling, Tail}
+use Rattle.reader_model.specs.declared.Stage.the-variants.{ParameterCount, Parameters, RootCount, Root, CoefficientCount, Coefficient, QueryCount, Value, Sibling, Tail}
 use Rattle.reader_model.specs.declared.Cursor.{Cursor}
 use Rattle.reader_model.specs.declared.Walk.{Walk}
 use Rattle.reader_model.specs.declared.Core.{Core}
@@ -37,10 +37,10 @@ use Rattle.reader_model.specs.State.{itemLength, stopped, closedState, p
 use Rattle.reader_model.specs.Items.{sane, refused, finals, afterCount, afterQueryCount, dispatched, kept, advanced}
 use Rattle.reader_model.specs.Model.{stored, step, fed, isStopped, isTail, openAnswer, answerOf, pieced, ended, started}
 use Rattle.reader_model.proofs.Filled.{challenges}
-use Rattle.reader_model.proofs.Rest.{counting, withParameters, toSection3, toSection4, toQueries, judgement-is, Sound, Waiting, At, parameter-count, parameters, root-count, root, coefficient-count, coefficient, query-count, first, second, sibling, After, goes, stops}
+use Rattle.reader_model.proofs.Rest.{counting, withParameters, toSection3, toSection4, toQueries, judgement-is, Sound, Waiting, At, parameter-count, parameters, root-count, root, coefficient-count, coefficient, query-count, value, sibling, After, goes, stops}
 use Rattle.reader_model.proofs.Rest
 use Rattle.reader_model.proofs.Stages.{finals-are, finals-low, pred-of, leaves-as, after-count, after-parameters, after-root, after-coefficient}
-use Rattle.reader_model.proofs.Queries.{begin-query, after-first, after-second, after-sibling}
+use Rattle.reader_model.proofs.Queries.{begin-query, after-value, after-sibling}
 
 -- What the model answers to a piece that leaves this state, as to the piece with no bytes; and to the end call.
 abbrev pub says : (List ℕ → Digest) → Reader → Answer
@@ -64,6 +64,7 @@ sane-is c s h l =
       lt-ltb (c .cursor .coefficient) 64 (s .coefficient-low),
       lt-ltb (c .cursor .query) 128 (s .query-low),
       lt-ltb (c .cursor .layer) 16 (s .layer-low),
+      lt-ltb (c .cursor .value) 4 (s .value-low),
       lt-ltb (c .cursor .height) 32 (s .height-low),
     )
 
@@ -93,8 +94,7 @@ module _ (hash : List ℕ → Digest) (context : List ℕ) where
   waits CoefficientCount u (coefficient-count e l) = open-item refl (omega arith) (omega arith) refl refl
   waits Coefficient u (coefficient more e l total) = open-item refl (omega arith) (omega arith) refl refl
   waits QueryCount u (query-count l) = open-item refl (omega arith) (omega arith) refl refl
-  waits First u (first w h) = open-item refl (omega arith) (omega arith) refl refl
-  waits Second u (second w h) = open-item refl (omega arith) (omega arith) refl refl
+  waits Value u (value w more h f e total) = open-item refl (omega arith) (omega arith) refl refl
   waits Sibling u (sibling w more h) = open-item refl (omega arith) (omega arith) refl refl
 
   -- A whole item, of every stage. Counts that are wanted are above 0, so at least one root, coefficient and query follow.
@@ -123,8 +123,7 @@ module _ (hash : List ℕ → Digest) (context : List ℕ) where
       after-count c t (c .params .q) (c .params .q) (toQueries hash (c .params) context roots final (c .params .q) 0) refl
       (leaves-as (begin-query hash context c t s roots final 0 more l (omega arith))
       (ap (λ x. toQueries hash (c .params) context roots final x 0) (sym q-is)))
-  dispatch c t s First u f (first w h) = after-first hash context c t s w h
-  dispatch c t s Second u f (second w h) = after-second hash context c t s w h
+  dispatch c t s Value u f (value w more h g e total) = after-value hash context c t s w more h g e total
   dispatch c t s Sibling u f (sibling w more h) =
       leaves-as (after-sibling hash context c t s w more h) (ap f (sym (take-all 32 (c .item) (omega arith))))
 
@@ -167,9 +166,11 @@ stored-sound : (r : Reader) (x : ℕ) → Sound (r .core) → Sound (stored r x 
 stored-sound r x s = record {
   valid = s .valid;
   item-size = length-set (r .core .item) (r .core .fill) x ∙ s .item-size;
+  values-size = s .values-size;
   coefficient-low = s .coefficient-low;
   query-low = s .query-low;
   layer-low = s .layer-low;
+  value-low = s .value-low;
   height-low = s .height-low;
 }
 
@@ -198,9 +199,11 @@ module _ (hash : List ℕ → Digest) (context : List ℕ) where
       (record {
         valid = v;
         item-size = refl;
+        values-size = refl;
         coefficient-low = omega arith;
         query-low = omega arith;
         layer-low = omega arith;
+        value-low = omega arith;
         height-low = omega arith;
       })
       (parameter-count

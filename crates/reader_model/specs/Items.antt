@@ -1,7 +1,7 @@
 -- What a whole item does to the state, stage by stage: the tests of the judgement, in its order, over what the state has kept.
 use Prim.Native.Nat.{ℕ, _+_, _*_, _/_, _%_}
 use mathlib.Core.Bool.{Bool, cond, _&&_}
-use mathlib.Core.List.{List, [], _∷_}
+use mathlib.Core.List.{List}
 use lib.ListN.{getD, set, take, drop}
 use lib.Seq.{sets}
 use lib.Dec.{ltb, leb, eqb}
@@ -9,15 +9,15 @@ use Rattle.answer.specs.Table.{answered, closed, count-differs, parameters-diff
 use Rattle.field.specs.Modular.{p as modulus}
 use Rattle.message.specs.Bytes.{num}
 use Rattle.message.specs.Message.{Digest}
-use Rattle.params.specs.Parameters.{headerSize, header, finalCount, ifValid, height, indexBits}
-use Rattle.domain.specs.Domain.{half, point}
+use Rattle.params.specs.Parameters.{headerSize, header, finalCount, ifValid, depth, valuesPerLeaf, height, leafCount, indexBits}
+use Rattle.domain.specs.Domain.{point}
 use Rattle.merkle.specs.Merkle.{leaf, join}
 use Rattle.transcript.specs.Transcript.{absorb, challenge, finish, drawn}
 use Rattle.fold.specs.Poly.{eval}
-use Rattle.fold.specs.Fold.{scale, folded, agrees}
-use Rattle.fri.specs.Judge.{sameBytes, named}
+use Rattle.fold.specs.Fold.{expected, agrees}
+use Rattle.fri.specs.Judge.{sameBytes, valueAt}
 use Rattle.reader_model.specs.declared.Stage.{Stage}
-use Rattle.reader_model.specs.declared.Stage.the-variants.{ParameterCount, Parameters, RootCount, Root, CoefficientCount, Coefficient, QueryCount, First, Second, Sibling, Tail, Stopped}
+use Rattle.reader_model.specs.declared.Stage.the-variants.{ParameterCount, Parameters, RootCount, Root, CoefficientCount, Coefficient, QueryCount, Value, Sibling, Tail, Stopped}
 use Rattle.reader_model.specs.declared.Walk.{Walk}
 use Rattle.reader_model.specs.declared.Core.{Core}
 use Rattle.reader_model.specs.declared.Tables.{Tables}
@@ -32,7 +32,8 @@ sane c =
     && (ltb (c .cursor .coefficient) 64
     && (ltb (c .cursor .query) 128
     && (ltb (c .cursor .layer) 16
-    && ltb (c .cursor .height) 32))))
+    && (ltb (c .cursor .value) 4
+    && ltb (c .cursor .height) 32)))))
 
 -- Refused with this number, at the item's last byte.
 unfoldable pub refused : Core → ℕ → Core
@@ -49,15 +50,18 @@ numberOf c = num (take 4 (c .item))
 abbrev pub finals : Core → ℕ
 finals c = ifValid (c .params) (finalCount (c .params))
 
--- The cursor at another coefficient, layer (at its first height) or height.
+-- The cursor at another coefficient, layer (at its first value and height), value or height.
 abbrev pub atCoefficient : Core → ℕ → Core
-atCoefficient c i = withCursor c (record { start = c .cursor .start; coefficient = i; query = c .cursor .query; layer = c .cursor .layer; height = c .cursor .height })
+atCoefficient c i = withCursor c (record { start = c .cursor .start; coefficient = i; query = c .cursor .query; layer = c .cursor .layer; value = c .cursor .value; height = c .cursor .height })
 
 abbrev pub atLayer : Core → ℕ → Core
-atLayer c j = withCursor c (record { start = c .cursor .start; coefficient = c .cursor .coefficient; query = c .cursor .query; layer = j; height = 0 })
+atLayer c j = withCursor c (record { start = c .cursor .start; coefficient = c .cursor .coefficient; query = c .cursor .query; layer = j; value = 0; height = 0 })
+
+abbrev pub atValue : Core → ℕ → Core
+atValue c r = withCursor c (record { start = c .cursor .start; coefficient = c .cursor .coefficient; query = c .cursor .query; layer = c .cursor .layer; value = r; height = c .cursor .height })
 
 abbrev pub atHeight : Core → ℕ → Core
-atHeight c h = withCursor c (record { start = c .cursor .start; coefficient = c .cursor .coefficient; query = c .cursor .query; layer = c .cursor .layer; height = h })
+atHeight c h = withCursor c (record { start = c .cursor .start; coefficient = c .cursor .coefficient; query = c .cursor .query; layer = c .cursor .layer; value = c .cursor .value; height = h })
 
 unfoldable pub afterCount : Core → ℕ → Stage → Core
 afterCount c want stage = cond (eqb (countOf c) want) (movedTo c stage) (refused c count-differs)
@@ -65,20 +69,28 @@ afterCount c want stage = cond (eqb (countOf c) want) (movedTo c stage) (refused
 unfoldable pub afterParameters : Core → Core
 afterParameters c = cond (sameBytes (take headerSize (c .item)) (header (c .params))) (movedTo c RootCount) (refused c parameters-differ)
 
-unfoldable pub afterFirst : Core → Core
-afterFirst c =
+-- The array of the leaf's values with this one, the values in such an array, and the walk with it.
+abbrev pub valuesWith : Core → List ℕ
+valuesWith c = set (c .walk .values) (c .cursor .value) (numberOf c)
+
+abbrev pub leafOf : Core → List ℕ → List ℕ
+leafOf c values = take (valuesPerLeaf (c .params)) values
+
+abbrev pub withValues : Core → List ℕ → Core
+withValues c values =
     let w = c .walk in
-    cond (ltb (numberOf c) modulus)
-    (movedTo (withWalk c (record { index = w .index; position = w .position; first = numberOf c; scale = w .scale; folded = w .folded; node = w .node })) Second)
-    (refused c not-below-modulus)
+    withWalk c (record { index = w .index; position = w .position; values = values; scale = w .scale; folded = w .folded; node = w .node })
 
 -- Whether the value that the index names is the folded one.
-unfoldable pub linked : Core → ℕ → Bool
-linked c second = agrees (c .walk .scale) (c .walk .folded) (named (c .params) (c .cursor .layer) (c .walk .index) (c .walk .first) second)
+unfoldable pub linked : Core → List ℕ → Bool
+linked c values = agrees (c .walk .scale) (c .walk .folded) (valueAt (c .params) (c .cursor .layer) (c .walk .index) (leafOf c values))
 
--- The leaf of this layer.
+-- The leaf of this layer, and the point of its first value.
 abbrev pub leafIndex : Core → ℕ
-leafIndex c = c .walk .index % half (c .params .n) (c .cursor .layer)
+leafIndex c = c .walk .index % leafCount (c .params) (c .cursor .layer)
+
+abbrev pub leafPoint : Core → ℕ
+leafPoint c = point (c .params .n) (depth (c .params) (c .cursor .layer)) (leafIndex c)
 
 -- Whether the node is the root of its layer.
 unfoldable pub rooted : Core → List ℕ → Bool
@@ -87,7 +99,7 @@ rooted c roots = sameBytes (c .walk .node) (take 32 (drop (32 * c .cursor .layer
 -- Whether the chain ends on the final polynomial.
 unfoldable pub finished : Core → List ℕ → Bool
 finished c coefficients =
-    agrees (c .walk .scale) (c .walk .folded) (eval (take (finals c) coefficients) (point (c .params .n) (c .params .k) (c .walk .index)))
+    agrees (c .walk .scale) (c .walk .folded) (eval (take (finals c) coefficients) (point (c .params .n) (depth (c .params) (c .params .k)) (c .walk .index)))
 
 module _ (hash : List ℕ → Digest) where
   -- A root: absorbed, then its challenge is drawn; it and its challenge are kept.
@@ -123,37 +135,45 @@ module _ (hash : List ℕ → Digest) where
   unfoldable pub atQuery : Core → ℕ → Core
   atQuery c i =
       withWalk
-      (withCursor c (record { start = c .cursor .start; coefficient = c .cursor .coefficient; query = i; layer = 0; height = 0 }))
+      (withCursor c (record { start = c .cursor .start; coefficient = c .cursor .coefficient; query = i; layer = 0; value = 0; height = 0 }))
       (record {
         index = drawn hash (c .transcript) (indexBits (c .params)) i;
         position = 0;
-        first = 0;
+        values = c .walk .values;
         scale = 0;
         folded = 0;
         node = c .walk .node;
       })
 
   unfoldable pub afterQueryCount : Core → Core
-  afterQueryCount c = cond (eqb (countOf c) (c .params .q)) (movedTo (atQuery c 0) First) (refused c count-differs)
+  afterQueryCount c = cond (eqb (countOf c) (c .params .q)) (movedTo (atQuery c 0) Value) (refused c count-differs)
 
   -- The walk at its leaf: what the next value must meet, and the leaf's digest.
-  unfoldable pub atLeaf : Core → ℕ → ℕ → Walk
-  atLeaf c β second =
+  unfoldable pub atLeaf : Core → ℕ → List ℕ → Walk
+  atLeaf c β values =
       record {
         index = leafIndex c;
         position = leafIndex c;
-        first = c .walk .first;
-        scale = scale (point (c .params .n) (c .cursor .layer) (leafIndex c));
-        folded = folded (point (c .params .n) (c .cursor .layer) (leafIndex c)) β (c .walk .first) second;
-        node = leaf hash (c .walk .first ∷ second ∷ []);
+        values = values;
+        scale = expected (leafPoint c) β (leafOf c values) .scale;
+        folded = expected (leafPoint c) β (leafOf c values) .folded;
+        node = leaf hash (leafOf c values);
       }
 
-  unfoldable pub afterSecond : Core → List ℕ → Core
-  afterSecond c challenges =
+  -- The leaf's last value, in this array with the others: the one that the index names must be the folded one.
+  unfoldable pub afterLeaf : Core → List ℕ → List ℕ → Core
+  afterLeaf c challenges values =
+      cond (linked c values)
+      (movedTo (withWalk c (atLeaf c (getD challenges (c .cursor .layer) 0) values)) Sibling)
+      (refused c not-the-folded-value)
+
+  -- A value is kept until the last one is there.
+  unfoldable pub afterValue : Core → List ℕ → Core
+  afterValue c challenges =
       cond (ltb (numberOf c) modulus)
-      (cond (linked c (numberOf c))
-      (movedTo (withWalk c (atLeaf c (getD challenges (c .cursor .layer) 0) (numberOf c))) Sibling)
-      (refused c not-the-folded-value))
+      (cond (ltb (c .cursor .value + 1) (valuesPerLeaf (c .params)))
+      (movedTo (atValue (withValues c (valuesWith c)) (c .cursor .value + 1)) Value)
+      (afterLeaf c challenges (valuesWith c)))
       (refused c not-below-modulus)
 
   -- One node up.
@@ -163,7 +183,7 @@ module _ (hash : List ℕ → Digest) where
       record {
         index = w .index;
         position = w .position / 2;
-        first = w .first;
+        values = w .values;
         scale = w .scale;
         folded = w .folded;
         node = join hash (w .position % 2) (w .node) (c .item);
@@ -171,13 +191,13 @@ module _ (hash : List ℕ → Digest) where
 
   -- A query has ended: the next one, or the end of the file.
   unfoldable pub nextQuery : Core → Core
-  nextQuery c = cond (ltb (c .cursor .query + 1) (c .params .q)) (movedTo (atQuery c (c .cursor .query + 1)) First) (movedTo c Tail)
+  nextQuery c = cond (ltb (c .cursor .query + 1) (c .params .q)) (movedTo (atQuery c (c .cursor .query + 1)) Value) (movedTo c Tail)
 
   -- A layer has ended: the next one, or the final polynomial.
   unfoldable pub nextLayer : Core → List ℕ → Core
   nextLayer c coefficients =
       cond (ltb (c .cursor .layer + 1) (c .params .k))
-      (movedTo (atLayer c (c .cursor .layer + 1)) First)
+      (movedTo (atLayer c (c .cursor .layer + 1)) Value)
       (cond (finished c coefficients) (nextQuery c) (refused c misses-final-polynomial))
 
   -- A path has ended.
@@ -200,8 +220,7 @@ module _ (hash : List ℕ → Digest) where
   dispatched CoefficientCount c t = afterCount c (finals c) Coefficient
   dispatched Coefficient c t = afterCoefficient c (t .coefficients)
   dispatched QueryCount c t = afterQueryCount c
-  dispatched First c t = afterFirst c
-  dispatched Second c t = afterSecond c (t .challenges)
+  dispatched Value c t = afterValue c (t .challenges)
   dispatched Sibling c t = afterSibling c (t .roots) (t .coefficients)
   dispatched Tail c t = refused c byte-after-the-end
   dispatched Stopped c t = c
@@ -214,8 +233,7 @@ module _ (hash : List ℕ → Digest) where
   kept CoefficientCount c t = t
   kept Coefficient c t = record { roots = t .roots; challenges = t .challenges; coefficients = coefficientsAfter c (t .coefficients) }
   kept QueryCount c t = t
-  kept First c t = t
-  kept Second c t = t
+  kept Value c t = t
   kept Sibling c t = t
   kept Tail c t = t
   kept Stopped c t = t

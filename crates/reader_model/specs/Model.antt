@@ -12,7 +12,7 @@ use Rattle.params.specs.declared.Params.{Params}
 use Rattle.params.specs.Parameters.{header, valid}
 use Rattle.transcript.specs.Transcript.{start}
 use Rattle.reader_model.specs.declared.Stage.{Stage}
-use Rattle.reader_model.specs.declared.Stage.the-variants.{ParameterCount, Parameters, RootCount, Root, CoefficientCount, Coefficient, QueryCount, First, Second, Sibling, Tail, Stopped}
+use Rattle.reader_model.specs.declared.Stage.the-variants.{ParameterCount, Parameters, RootCount, Root, CoefficientCount, Coefficient, QueryCount, Value, Sibling, Tail, Stopped}
 use Rattle.reader_model.specs.declared.Hold.{Hold}
 use Rattle.reader_model.specs.declared.Core.{Core}
 use Rattle.reader_model.specs.declared.Reader.{Reader}
@@ -43,8 +43,7 @@ isStopped Root = false
 isStopped CoefficientCount = false
 isStopped Coefficient = false
 isStopped QueryCount = false
-isStopped First = false
-isStopped Second = false
+isStopped Value = false
 isStopped Sibling = false
 isStopped Tail = false
 isStopped Stopped = true
@@ -57,8 +56,7 @@ isTail Root = false
 isTail CoefficientCount = false
 isTail Coefficient = false
 isTail QueryCount = false
-isTail First = false
-isTail Second = false
+isTail Value = false
 isTail Sibling = false
 isTail Tail = true
 isTail Stopped = false

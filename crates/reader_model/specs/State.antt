@@ -7,7 +7,7 @@ use Rattle.answer.specs.Table.{answered, open-so-far, closed}
 use Rattle.params.specs.declared.Params.{Params}
 use Rattle.params.specs.Parameters.{headerSize}
 use Rattle.reader_model.specs.declared.Stage.{Stage}
-use Rattle.reader_model.specs.declared.Stage.the-variants.{ParameterCount, Parameters, RootCount, Root, CoefficientCount, Coefficient, QueryCount, First, Second, Sibling, Tail, Stopped}
+use Rattle.reader_model.specs.declared.Stage.the-variants.{ParameterCount, Parameters, RootCount, Root, CoefficientCount, Coefficient, QueryCount, Value, Sibling, Tail, Stopped}
 use Rattle.reader_model.specs.declared.Cursor.{Cursor}
 use Rattle.reader_model.specs.declared.Walk.{Walk}
 use Rattle.reader_model.specs.declared.Core.{Core}
@@ -23,17 +23,16 @@ itemLength Root = 32
 itemLength CoefficientCount = 2
 itemLength Coefficient = 4
 itemLength QueryCount = 2
-itemLength First = 4
-itemLength Second = 4
+itemLength Value = 4
 itemLength Sibling = 32
 itemLength Tail = 1
 itemLength Stopped = 0
 
 abbrev pub noCursor : Cursor
-noCursor = record { start = 0; coefficient = 0; query = 0; layer = 0; height = 0 }
+noCursor = record { start = 0; coefficient = 0; query = 0; layer = 0; value = 0; height = 0 }
 
 abbrev pub noWalk : Walk
-noWalk = record { index = 0; position = 0; first = 0; scale = 0; folded = 0; node = replicate 32 0 }
+noWalk = record { index = 0; position = 0; values = replicate 4 0; scale = 0; folded = 0; node = replicate 32 0 }
 
 abbrev pub noParameters : Params
 noParameters = record { n = 0; b = 0; k = 0; q = 0 }
@@ -93,7 +92,7 @@ movedTo c stage = record {
   fill = 0;
   item = c .item;
   params = c .params;
-  cursor = record { start = place c; coefficient = c .cursor .coefficient; query = c .cursor .query; layer = c .cursor .layer; height = c .cursor .height };
+  cursor = record { start = place c; coefficient = c .cursor .coefficient; query = c .cursor .query; layer = c .cursor .layer; value = c .cursor .value; height = c .cursor .height };
   walk = c .walk;
   transcript = c .transcript;
 }

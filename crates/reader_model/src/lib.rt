@@ -12,30 +12,30 @@ pub enum Stage {
     CoefficientCount,
     Coefficient,
     QueryCount,
-    First,
-    Second,
+    Value,
     Sibling,
     Tail,
     Stopped,
 }
 
-// Where the current item stands: the bytes before it, and its coefficient, query, layer and height.
+// Where the current item stands: the bytes before it, and its coefficient, query, layer, value and height.
 #[repr(C)]
 pub struct Cursor {
     pub start: u32,
     pub coefficient: usize,
     pub query: u8,
     pub layer: u8,
+    pub value: u8,
     pub height: u8,
 }
 
-// A query's walk: its index in the layer, the number of the node at its height, the first value, what the next layer's value must meet (scale times it
-// is folded), and the node.
+// A query's walk: its index in the layer, the number of the node at its height, the leaf's values, what the next layer's value must meet (scale times
+// it is folded), and the node. Sized for 4 values.
 #[repr(C)]
 pub struct Walk {
     pub index: u32,
     pub position: u32,
-    pub first: u32,
+    pub values: [u32; 4],
     pub scale: u32,
     pub folded: u32,
     pub node: [u8; 32],

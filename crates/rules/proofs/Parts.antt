@@ -2,10 +2,11 @@
 use Prim.Native.Nat.{ℕ, suc, _+_, _*_, _<_}
 use mathlib.Core.Bool.{Bool, true, false, false≢true}
 use mathlib.Core.List.{List}
-use mathlib.Core.Path.{_≡_, sym, _∙_}
+use mathlib.Core.Path.{_≡_, refl, sym, _∙_}
 use native.Mathlib.Nat.{add-zero}
 use native.Mathlib.Omega.{arith}
 use lib.Dec.{ltb, eqb}
+use lib.ListN.{getD}
 use borrow.Author.Tests.{ltb-true, ltb-false, eqb-true, eqb-false}
 use Rattle.answer.specs.Table.{count-differs, not-below-modulus}
 use Rattle.field.specs.Modular.{p as modulus}
@@ -14,8 +15,9 @@ use Rattle.message.specs.Message.{Digest}
 use Rattle.fri.specs.Process.{Process, bytes, many, pure, _>>=_, _>>_}
 use Rattle.fri.specs.Encoding.{tabulate}
 use Rattle.fri.specs.Judge.{sameBytes, count, number}
+use Rattle.fri.proofs.Tabulate.{tabulate-at}
 use Rattle.fri.proofs.Same.{same-self}
-use Rattle.rules.proofs.Faults.{None, One}
+use Rattle.rules.proofs.Faults.{None, One, Some}
 use Rattle.rules.proofs.Steps.{Through, restated, only, tested, bytes-taken, many-taken}
 
 -- A test that fails does not hold.
@@ -43,6 +45,17 @@ module _ {file : List ℕ} where
       (only (tested (λ _. k (num (part lo 4 file))) _ (ltb (num (part lo 4 file)) modulus) not-below-modulus (omega arith)
       (λ t n. n (ltb-true _ _ t)) (λ t n. omega (arith, ltb-false (num (part lo 4 file)) modulus t)) (λ c d h. absurd h)
       (bytes-taken 4 lo hi _ e)))
+
+  -- The numbers vs, which stand from byte lo on.
+  pub numbers-taken : (n lo hi : ℕ) (vs : List ℕ) (k : List ℕ → Process) → hi ≡ lo + 4 * n → tabulate n (λ r. num (part (lo + 4 * r) 4 file)) ≡ vs
+      → Through file (Some (λ r. One (¬ (getD vs r 0 < modulus)) not-below-modulus (lo + 4 * r + 4)) n) lo hi (many n number k) (k vs)
+  numbers-taken n lo hi vs k e f =
+      let read : ℕ → ℕ = λ r. num (part (lo + 4 * r) 4 file) in
+      rw (e, ← f)
+      (rw (add-zero lo) at (many-taken {file = file} n number
+      (λ r. One (¬ (getD (tabulate n read) r 0 < modulus)) not-below-modulus (lo + 4 * r + 4)) (λ r. lo + 4 * r) read k
+      (λ r h l.
+      rw (tabulate-at n read r 0 h) (number-taken (lo + 4 * r) (lo + 4 * suc r) (lo + 4 * r + 4) _ l (omega arith) (omega arith) refl))))
 
   -- The digests ds, which stand from byte lo on.
   pub digests-taken : (n lo hi : ℕ) (ds : List Digest) (k : List Digest → Process) → hi ≡ lo + 32 * n

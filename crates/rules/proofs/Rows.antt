@@ -5,14 +5,14 @@ use mathlib.Core.Path.{_≡_, refl, ap, sym, _∙_, subst}
 use native.Mathlib.Omega.{arith}
 use Rattle.answer.specs.Table.{not-the-folded-value, misses-final-polynomial, byte-after-the-end}
 use Rattle.params.specs.declared.Params.{Params}
-use Rattle.params.specs.Parameters.{leafLength, openingOffset, fileLength}
+use Rattle.params.specs.Parameters.{valuesPerLeaf, openingOffset, valueOffset, fileLength}
 use Rattle.message.specs.Message.{Digest}
 use Rattle.fri.specs.Encoding.{Proof}
 use Rattle.fri.specs.Accepted.{FoldsTo, nextValue}
-use Rattle.rules.specs.Rules.{proofIn, Rule, count-1, count-2, count-3, count-4, section-1, coefficient, first-value, second-value, folded-value, path, final-value, after-the-end}
+use Rattle.rules.specs.Rules.{proofIn, Rule, count-1, count-2, count-3, count-4, section-1, coefficient, value, folded-value, path, final-value, after-the-end}
 use Rattle.rules.proofs.Faults.{Faults, One, Either, left, right, one, from-one}
 use Rattle.rules.proofs.Offsets.{offset-next}
-use Rattle.rules.proofs.Walked.{valueAt, finalAt, Missed, LayerFaults, QueryFaults}
+use Rattle.rules.proofs.Walked.{valueHere, finalAt, Missed, LayerFaults, QueryFaults}
 use Rattle.rules.proofs.Sections.{AllFaults}
 
 module _ (hash : List ℕ → Digest) (p : Params) (context file : List ℕ) where
@@ -37,10 +37,9 @@ module _ (hash : List ℕ → Digest) (p : Params) (context file : List ℕ) whe
   rule-fault (count-3 h) = left (right (right (right (left (one h)))))
   rule-fault (coefficient i b h) = left (right (right (right (right (left (record { index = i; below = omega arith; fault = one h }))))))
   rule-fault (count-4 h) = left (right (right (right (right (right (left (one h)))))))
-  rule-fault (first-value i j b l h) = in-layer i j b l (left (one h))
-  rule-fault (second-value i j b l h) = in-layer i j b l (right (left (left (one h))))
-  rule-fault (folded-value i j b l h) = in-layer i (suc j) b l (right (left (right (one (record { layer = j; before = refl; misses = h })))))
-  rule-fault (path i j b l h) = in-layer i j b l (right (right (one h)))
+  rule-fault (value i j r b l e h) = in-layer i j b l (left (left (record { index = r; below = e; fault = one h })))
+  rule-fault (folded-value i j b l h) = in-layer i (suc j) b l (left (right (one (record { layer = j; before = refl; misses = h }))))
+  rule-fault (path i j b l h) = in-layer i j b l (right (one h))
   rule-fault (final-value i j b e h) =
       in-query i b
       (right
@@ -55,7 +54,7 @@ module _ (hash : List ℕ → Digest) (p : Params) (context file : List ℕ) whe
   Rules = Rule hash p context file
 
   folded-rule : (i j : ℕ) → i < p .q → j < p .k
-      → Missed hash p context file i j (valueAt hash p context file i j) → Rules not-the-folded-value (openingOffset p i j + leafLength p)
+      → Missed hash p context file i j (valueHere hash p context file i j) → Rules not-the-folded-value (valueOffset p i j (valuesPerLeaf p))
   unfolding nextValue
   folded-rule i zero b l m = absurd (omega (arith, m .before))
   folded-rule i (suc j) b l m =
@@ -70,10 +69,9 @@ module _ (hash : List ℕ → Digest) (p : Params) (context file : List ℕ) whe
       (subst (λ l. ¬ FoldsTo hash p context proof i (m .layer) (finalAt hash p context file i l)) (m .before) (m .misses)))
 
   layer-rule : {c d : ℕ} (i j : ℕ) → i < p .q → j < p .k → LayerFaults hash p context file i j c d → Rules c d
-  layer-rule i j b l (left f) = from-one Rules (first-value i j b l) f
-  layer-rule i j b l (right (left (left f))) = from-one Rules (second-value i j b l) f
-  layer-rule i j b l (right (left (right f))) = from-one Rules (folded-rule i j b l) f
-  layer-rule i j b l (right (right f)) = from-one Rules (path i j b l) f
+  layer-rule i j b l (left (left f)) = from-one Rules (value i j (f .index) b l (f .below)) (f .fault)
+  layer-rule i j b l (left (right f)) = from-one Rules (folded-rule i j b l) f
+  layer-rule i j b l (right f) = from-one Rules (path i j b l) f
 
   query-rule : {c d : ℕ} (i : ℕ) → i < p .q → QueryFaults hash p context file i c d → Rules c d
   query-rule i b (left f) = layer-rule i (f .index) b (f .below) (f .fault)

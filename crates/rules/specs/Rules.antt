@@ -7,7 +7,7 @@ use lib.ListN.{length, getD}
 use Rattle.answer.specs.Table.{open-so-far, accepted, parameters-not-valid, count-differs, parameters-differ, not-below-modulus, not-the-folded-value, path-misses-root, misses-final-polynomial, too-few-bytes, byte-after-the-end}
 use Rattle.field.specs.Modular.{p as modulus}
 use Rattle.params.specs.declared.Params.{Params}
-use Rattle.params.specs.Parameters.{Valid, headerSize, header, finalCount, height, leafLength, openingLength, rootCountOffset, rootOffset, finalCountOffset, coefficientOffset, queryCountOffset, queriesOffset, openingOffset, fileLength}
+use Rattle.params.specs.Parameters.{Valid, headerSize, header, finalCount, depth, valuesPerLeaf, height, openingLength, rootCountOffset, rootOffset, finalCountOffset, coefficientOffset, queryCountOffset, queriesOffset, openingOffset, valueOffset, siblingOffset, fileLength}
 use Rattle.message.specs.Bytes.{num, part}
 use Rattle.message.specs.Message.{Digest}
 use Rattle.domain.specs.Domain.{point}
@@ -24,9 +24,8 @@ openingEnd p i j = openingOffset p i j + openingLength p j
 unfoldable pub openingIn : Params → List ℕ → ℕ → ℕ → Opening
 openingIn p file i j =
     record {
-      first = num (part (openingOffset p i j) 4 file);
-      second = num (part (openingOffset p i j + 4) 4 file);
-      siblings = tabulate (height p j) (λ h. part (openingOffset p i j + leafLength p + 32 * h) 32 file);
+      values = tabulate (valuesPerLeaf p) (λ r. num (part (valueOffset p i j r) 4 file));
+      siblings = tabulate (height p j) (λ h. part (siblingOffset p i j h) 32 file);
     }
 
 unfoldable pub proofIn : Params → List ℕ → Proof
@@ -52,18 +51,18 @@ module _ (hash : List ℕ → Digest) (p : Params) (context file : List ℕ) whe
     section-1 : ¬ (part 2 headerSize file ≡ header p) → Rule parameters-differ (2 + headerSize)
     -- 22: a number not below p; at its 4th byte
     coefficient : (i : ℕ) → i < finalCount p → ¬ (getD (proof .final) i 0 < modulus) → Rule not-below-modulus (coefficientOffset p i + 4)
-    first-value : (i j : ℕ) → i < p .q → j < p .k → ¬ (openingAt proof i j .first < modulus) → Rule not-below-modulus (openingOffset p i j + 4)
-    second-value : (i j : ℕ) → i < p .q → j < p .k → ¬ (openingAt proof i j .second < modulus) → Rule not-below-modulus (openingOffset p i j + leafLength p)
-    -- 24: the opened value of layer j + 1 is not the one folded from layer j; at the second value's last byte
+    value : (i j r : ℕ) → i < p .q → j < p .k → r < valuesPerLeaf p → ¬ (getD (openingAt proof i j .values) r 0 < modulus)
+        → Rule not-below-modulus (valueOffset p i j r + 4)
+    -- 24: the opened value of layer j + 1 is not the one folded from layer j; at the leaf's last value's last byte
     folded-value : (i j : ℕ) → i < p .q → suc j < p .k → ¬ FoldsTo hash p context proof i j (nextValue hash p context proof i j)
-        → Rule not-the-folded-value (openingOffset p i (suc j) + leafLength p)
+        → Rule not-the-folded-value (valueOffset p i (suc j) (valuesPerLeaf p))
     -- 23: the path misses the root; at the last sibling's last byte
     path : (i j : ℕ) → i < p .q → j < p .k
         → ¬ (climb hash (openedLeaf hash p context proof i j) (leafAt hash p context proof i j) (openingAt proof i j .siblings) ≡ rootAt proof j)
         → Rule path-misses-root (openingEnd p i j)
     -- 25: the chain misses the final polynomial; at the last sibling's last byte too
     final-value : (i j : ℕ) → i < p .q → suc j ≡ p .k
-        → ¬ FoldsTo hash p context proof i j (eval (proof .final) (point (p .n) (suc j) (leafAt hash p context proof i j)))
+        → ¬ FoldsTo hash p context proof i j (eval (proof .final) (point (p .n) (depth p (suc j)) (leafAt hash p context proof i j)))
         → Rule misses-final-polynomial (openingEnd p i j)
     -- 27: a byte after the file's L bytes; at L + 1
     after-the-end : Rule byte-after-the-end (fileLength p + 1)

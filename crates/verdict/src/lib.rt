@@ -11,8 +11,8 @@ use params::Params;
 pub fn whole(p: Params, context: [u8; 32], proof: &[u8]) -> Answer
     ensures { λ r. ⌜ r ≡ judge.verdict sha256 p context (now (proof .entry)) ⌝ }
 {
-    let mut marks = [0u8; 9];
-    let mut words = [0u32; 7];
+    let mut marks = [0u8; 10];
+    let mut words = [0u32; 10];
     let mut counts = [0usize; 2];
     let mut item = [0u8; 32];
     let mut node = [0u8; 32];

@@ -26,8 +26,8 @@ fn piece_end(at: usize, size: usize, length: usize) -> usize
 
 // Feeds the proof to a reader that is lent, in pieces of `size` bytes.
 fn feed_in_pieces(
-    marks: &mut [u8; 9],
-    words: &mut [u32; 7],
+    marks: &mut [u8; 10],
+    words: &mut [u32; 10],
     counts: &mut [usize; 2],
     item: &mut [u8; 32],
     node: &mut [u8; 32],
@@ -63,8 +63,8 @@ fn feed_in_pieces(
 pub fn judged(p: Params, context: [u8; 32], proof: &[u8], size: usize) -> Answer
     ensures { λ r. ⌜ r ≡ judge.verdict sha256 p context (now (proof .entry)) ⌝ }
 {
-    let mut marks = [0u8; 9];
-    let mut words = [0u32; 7];
+    let mut marks = [0u8; 10];
+    let mut words = [0u32; 10];
     let mut counts = [0usize; 2];
     let mut item = [0u8; 32];
     let mut node = [0u8; 32];

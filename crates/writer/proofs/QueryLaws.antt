@@ -1,7 +1,7 @@
 -- What an opening, a query and all queries leave in the file. Assumes nothing.
 use Prim.Native.Nat.{ℕ, zero, suc, _+_, _*_, _^_, _-_, _/_, _%_, _≤_, _<_}
 use mathlib.Core.Bool.{true, cond}
-use mathlib.Core.List.{List, _++_}
+use mathlib.Core.List.{List, [], _∷_, _++_}
 use mathlib.Core.Path.{_≡_, refl, sym, ap, ap₂, _∙_}
 use native.Mathlib.Nat.{pow-suc, add-zero, zero-add, zero-mul, suc-mul, mul-le-mul-right}
 use native.Mathlib.Numerals.{add-one}
@@ -11,40 +11,52 @@ use lib.ListN.{length, take, drop, getD, length-append, length-drop}
 use lib.Pow.{pow-mono}
 use lib.Seq.{sets, length-sets, length-take-le}
 use Rattle.params.specs.declared.Params.{Params}
-use Rattle.params.specs.Parameters.{Valid, height, indexBits, openingLength, queryLength}
+use Rattle.params.specs.Parameters.{Valid, valuesPerLeaf, height, leafCount, indexBits, openingLength, queryLength}
+use Rattle.params.proofs.LeafLaws.{leaf-lt}
 use Rattle.params.proofs.ParameterLaws.{query-snoc, query-more}
 use Rattle.sha256.specs.Sha256.{sha256}
-use Rattle.message.specs.Bytes.{le, part, joined}
+use Rattle.message.specs.Bytes.{le, part, joined, words}
 use Rattle.message.specs.Message.{Digest}
 use Rattle.message.proofs.Bytes.{le-length, joined-snoc}
-use Rattle.message.proofs.MessageLaws.{sets-append}
+use Rattle.message.proofs.MessageLaws.{sets-append, words-length}
 use Rattle.domain.specs.Domain.{half}
-use Rattle.domain.proofs.Index.{mod-half}
 use Rattle.transcript.specs.Transcript.{drawn}
 use Rattle.fri.specs.Encoding.{tabulate}
-use Rattle.fri.proofs.Tabulate.{tabulate-snoc}
+use Rattle.fri.proofs.Tabulate.{tabulate-length, tabulate-snoc}
 use Rattle.buffer.specs.Buffer.{put}
 use Rattle.buffer.proofs.BufferLaws.{put-fits}
 use Rattle.buffer.proofs.Placed.{part-length}
 use Rattle.polynomial.specs.Polynomial.{layerSize}
 use Rattle.tree.specs.Tree.{treeSize, siblingsIn, isPath, pathPut}
 use Rattle.tree.proofs.Rows.{siblings-length}
-use Rattle.writer_model.specs.Work.{openingIn, queryIn, queriesIn, treeStart}
+use Rattle.writer_model.specs.Work.{leafIn, openingIn, queryIn, queriesIn, treeStart}
 use Rattle.writer.proofs.LayerLaws.{layer-fits}
 
 -- Half a layer, as code has it.
-pub half-layer : {size : ℕ} (n j : ℕ) → j < n → size ≡ layerSize n j → size / 2 ≡ half n j
-unfolding layerSize half
-half-layer {size} n j h e =
-    let twice : size ≡ 2 * 2 ^ (n - suc j) = e ∙ ap (λ k. 2 ^ k) (omega arith) ∙ pow-suc 2 (n - suc j) ∙ omega arith in
+pub half-layer : {size : ℕ} (p : Params) (j : ℕ) → j < p .n → size ≡ layerSize (p .n) j → size / 2 ≡ leafCount p j
+unfolding layerSize
+half-layer {size} p j h e =
+    let twice : size ≡ 2 * 2 ^ (p .n - suc j) = e ∙ ap (λ k. 2 ^ k) (omega arith) ∙ pow-suc 2 (p .n - suc j) ∙ omega arith in
     omega arith
 
-pub half-inside : (p : Params) (j : ℕ) → Valid p → j < p .k → half (p .n) j + half (p .n) j ≡ layerSize (p .n) j
-unfolding layerSize half
+pub half-inside : (p : Params) (j : ℕ) → Valid p → j < p .k → leafCount p j + leafCount p j ≡ layerSize (p .n) j
+unfolding layerSize
 half-inside p j v h = sym (ap (λ k. 2 ^ k) (omega arith) ∙ pow-suc 2 (p .n - suc j) ∙ omega arith)
 
+-- The values of a leaf, as code has them, and their bytes.
+leaf-two : {size : ℕ} (p : Params) (j m : ℕ) (numbers : List ℕ) → j < p .n → size ≡ layerSize (p .n) j
+    → getD numbers (size + m) 0 ∷ getD numbers (size + m + size / 2) 0 ∷ [] ≡ leafIn p j m numbers
+unfolding leafIn tabulate
+leaf-two {size} p j m numbers h e =
+    let half = half-layer p j h e in
+    ap₂ (λ a b. getD numbers a 0 ∷ getD numbers b 0 ∷ []) (omega arith) (omega arith)
+
+bytes-two : (a b : ℕ) (z : List ℕ) → le 4 a ++ (le 4 b ++ z) ≡ words (a ∷ b ∷ []) ++ z
+unfolding words joined le
+bytes-two a b z = refl
+
 -- Two numbers and a path, put one after the other, are an opening.
-module _ (p : Params) (j m : ℕ) (v : Valid p) (h : j < p .k) (inside : m < half (p .n) j) (numbers bytes : List ℕ) (room : 64 * 2 ^ p .n ≤ length bytes)
+module _ (p : Params) (j m : ℕ) (v : Valid p) (h : j < p .k) (inside : m < leafCount p j) (numbers bytes : List ℕ) (room : 64 * 2 ^ p .n ≤ length bytes)
     (file : List ℕ) (at : ℕ) (fits : at + openingLength p j ≤ length file)
     {size up : ℕ} (e : size ≡ layerSize (p .n) j) (f : up ≡ p .n - j - 1) where
   abbrev tree : List ℕ
@@ -61,7 +73,6 @@ module _ (p : Params) (j m : ℕ) (v : Valid p) (h : j < p .k) (inside : m < hal
   twice = e ∙ ap (λ i. 2 ^ i) (omega arith) ∙ pow-suc 2 up ∙ omega arith
 
   leaf-inside : m < 2 ^ up
-  unfolding half
   leaf-inside = let there : 2 ^ up ≡ 2 ^ (p .n - suc j) = ap (λ i. 2 ^ i) same in omega arith
 
   tree-long : length tree ≡ treeSize up
@@ -101,8 +112,9 @@ module _ (p : Params) (j m : ℕ) (v : Valid p) (h : j < p .k) (inside : m < hal
       ∙ ap₂ (λ i d. sets d i (y ++ z)) four first
       ∙ sets-append file x (y ++ z) at
       ∙ ap (λ u. sets file at u)
-      (ap₂ (λ s t. le 4 (getD numbers (s + m) 0) ++ (le 4 (getD numbers (s + m + t) 0) ++ z)) e (half-layer (p .n) j (omega arith) e)
-      ∙ ap₂ (λ s t. le 4 (getD numbers (layerSize (p .n) j + m) 0) ++ (le 4 (getD numbers (layerSize (p .n) j + m + half (p .n) j) 0) ++ siblingsIn s t m)) same tree-there)
+      (bytes-two _ _ z
+      ∙ ap (λ vs. words vs ++ z) (leaf-two p j m numbers (omega arith) e)
+      ∙ ap₂ (λ s t. words (leafIn p j m numbers) ++ siblingsIn s t m) same tree-there)
 
 -- A tree stands within the bytes.
 tree-inside : (p : Params) (j : ℕ) → Valid p → j < p .k → treeStart p j + treeSize (height p j) ≤ 64 * 2 ^ p .n
@@ -114,7 +126,7 @@ tree-inside p j v h =
 
 -- The openings of a query in the first j layers, and the first i queries.
 pub openings : Params → ℕ → List ℕ → List ℕ → ℕ → List ℕ
-openings p m numbers bytes j = joined (tabulate j (λ l. openingIn p l (m % half (p .n) l) numbers bytes))
+openings p m numbers bytes j = joined (tabulate j (λ l. openingIn p l (m % leafCount p l) numbers bytes))
 
 pub opened : Params → Digest → List ℕ → List ℕ → ℕ → List ℕ
 opened p s numbers bytes i = joined (tabulate i (λ l. queryIn p (drawn sha256 s (indexBits p) l) numbers bytes))
@@ -129,7 +141,7 @@ unfolding opened tabulate joined
 opened-none p s numbers bytes file at = refl
 
 module _ (p : Params) (numbers bytes : List ℕ) where
-  openings-snoc : (m j : ℕ) → openings p m numbers bytes (suc j) ≡ openings p m numbers bytes j ++ openingIn p j (m % half (p .n) j) numbers bytes
+  openings-snoc : (m j : ℕ) → openings p m numbers bytes (suc j) ≡ openings p m numbers bytes j ++ openingIn p j (m % leafCount p j) numbers bytes
   unfolding openings
   openings-snoc m j = ap joined (tabulate-snoc j _) ∙ joined-snoc _ _
 
@@ -138,18 +150,15 @@ module _ (p : Params) (numbers bytes : List ℕ) where
   opened-snoc s i = ap joined (tabulate-snoc i _) ∙ joined-snoc _ _
 
 module _ (p : Params) (v : Valid p) (numbers bytes : List ℕ) (room : 64 * 2 ^ p .n ≤ length bytes) where
-  opening-size : (j m : ℕ) → j < p .k → m < half (p .n) j → length (openingIn p j m numbers bytes) ≡ openingLength p j
-  unfolding openingIn half
+  opening-size : (j m : ℕ) → j < p .k → m < leafCount p j → length (openingIn p j m numbers bytes) ≡ openingLength p j
+  unfolding openingIn leafIn
   opening-size j m h inside =
-      let x : List ℕ = le 4 (getD numbers (layerSize (p .n) j + m) 0) in
-      let y : List ℕ = le 4 (getD numbers (layerSize (p .n) j + m + 2 ^ (p .n - suc j)) 0) in
       let t : List ℕ = part (treeStart p j) (treeSize (height p j)) bytes in
       let z : List ℕ = siblingsIn (height p j) t m in
       let long : length t ≡ treeSize (height p j) = part-length (treeStart p j) (treeSize (height p j)) bytes (omega (arith, tree-inside p j v h)) in
-      let lx : length x ≡ 4 = le-length 4 _ in
-      let ly : length y ≡ 4 = le-length 4 _ in
       let lz : length z ≡ 32 * height p j = siblings-length (height p j) t m (omega arith) inside in
-      length-append x (y ++ z) ∙ omega (arith, length-append y z)
+      length-append (words (leafIn p j m numbers)) z
+      ∙ omega (arith, words-length (leafIn p j m numbers), tabulate-length (valuesPerLeaf p) (λ r. getD numbers (layerSize (p .n) j + (m + r * leafCount p j)) 0))
 
   module _ (m : ℕ) where
     openings-size : (j : ℕ) → j ≤ p .k → length (openings p m numbers bytes j) ≡ queryLength p 0 j
@@ -158,11 +167,12 @@ module _ (p : Params) (v : Valid p) (numbers bytes : List ℕ) (room : 64 * 2 ^ 
     openings-size (suc j) h =
         ap length (openings-snoc p numbers bytes m j)
         ∙ length-append (openings p m numbers bytes j) _
-        ∙ ap₂ (λ a b. a + b) (openings-size j (omega arith)) (opening-size j (m % half (p .n) j) h (mod-half (p .n) j m))
+        ∙ ap₂ (λ a b. a + b) (openings-size j (omega arith)) (opening-size j (m % leafCount p j) h (leaf-lt p j m))
         ∙ sym (ap (queryLength p 0) (sym (add-one j)) ∙ query-snoc p 0 j ∙ ap (λ k. queryLength p 0 j + openingLength p k) (zero-add j))
 
     pub openings-more : {d e : List ℕ} (file : List ℕ) (at to j l : ℕ) → j < p .k → to ≡ at + queryLength p 0 j → l ≡ m % half (p .n) j
         → d ≡ sets file at (openings p m numbers bytes j) → e ≡ sets d to (openingIn p j l numbers bytes) → e ≡ sets file at (openings p m numbers bytes (j + 1))
+    unfolding half
     openings-more file at to j l h t q a b =
         b
         ∙ ap₂ (λ x y. sets x y (openingIn p j l numbers bytes)) a (t ∙ ap (λ k. at + k) (sym (openings-size j (omega arith))))
@@ -212,8 +222,9 @@ query-inside i q size h =
     let more : suc i * size ≤ q * size = mul-le-mul-right size h in
     omega (arith, suc-mul i size)
 
-pub leaf-below : {l : ℕ} (n j m : ℕ) → l ≡ m % half n j → l < half n j
-leaf-below n j m e = rw e (mod-half n j m)
+pub leaf-below : {l : ℕ} (p : Params) (j m : ℕ) → l ≡ m % half (p .n) j → l < leafCount p j
+unfolding half
+leaf-below p j m e = rw e (leaf-lt p j m)
 
 pub opening-room : {to : ℕ} (p : Params) (at j size : ℕ) → j < p .k → to ≡ at + queryLength p 0 j → at + queryLength p 0 (p .k) ≤ size → to + openingLength p j ≤ size
 opening-room p at j size h e fits =

@@ -4,15 +4,14 @@ ghost use Prim.Native.Nat.{_+_, _*_, _^_, _≤_, _<_};
 ghost use lib.ListN.{length};
 ghost use lib.Seq.{sets};
 ghost use Rattle.sha256.specs.Sha256.{sha256};
-ghost use Rattle.params.specs.Parameters.{Valid, openingLength, queryLength};
-ghost use Rattle.domain.specs.Domain.{half};
+ghost use Rattle.params.specs.Parameters.{Valid, leafCount, openingLength, queryLength};
 ghost use Rattle.writer_model.specs.Work as spec;
 use params::Params;
 use transcript::Transcript;
 
 // The opening of a leaf of a layer.
 fn opening(p: Params, layer: u8, m: u32, numbers: &[u32], bytes: &[u8], file: &mut [u8], at: usize)
-    requires { ⌜ (Valid p × ((layer < p .k) × (m < half (p .n) layer))) × ((2 * 2 ^ p .n ≤ length (now numbers)) × ((64 * 2 ^ p .n ≤ length (now bytes)) × (at + openingLength p layer ≤ length (now file)))) ⌝ }
+    requires { ⌜ (Valid p × ((layer < p .k) × (m < leafCount p layer))) × ((2 * 2 ^ p .n ≤ length (now numbers)) × ((64 * 2 ^ p .n ≤ length (now bytes)) × (at + openingLength p layer ≤ length (now file)))) ⌝ }
     ensures { λ _. ⌜ now (file .exit) ≡ sets (now (file .entry)) at (spec.openingIn p layer m (now (numbers .entry)) (now (bytes .entry))) ⌝ }
 {
     let size = crate::sizes::size_of(p, layer);

@@ -11,11 +11,10 @@ use lib.ListN.{length, getD, replicate}
 use lib.Pow.{pow-mono}
 use lib.Seq.{sets, length-sets}
 use Rattle.params.specs.declared.Params.{Params}
-use Rattle.params.specs.Parameters.{Valid, height, rootOffset}
+use Rattle.params.specs.Parameters.{Valid, height, leafCount, rootOffset}
 use Rattle.message.specs.Bytes.{joined, part}
 use Rattle.message.specs.Message.{Digest}
 use Rattle.message.proofs.Bytes.{Sized}
-use Rattle.domain.specs.Domain.{half}
 use Rattle.merkle.specs.Merkle.{leaf, rootOf}
 use Rattle.merkle.proofs.Opens.{root-all}
 use Rattle.transcript.specs.Transcript.{absorb, challenge}
@@ -29,7 +28,7 @@ use Rattle.tree.specs.Tree.{leafRow, rows, treeSize}
 use Rattle.tree.proofs.TreeLaws.{blocks-more}
 use Rattle.tree.proofs.Size.{rows-length}
 use Rattle.built.specs.Built.{Layer, padded, leafOf, leaves, commit, nextLayer, layerAt, builtRoot}
-use Rattle.built.proofs.Layers.{leaves-length, layer-length}
+use Rattle.built.proofs.Layers.{leaves-length, leaf-two, layer-length}
 use Rattle.writer_model.specs.Work.{Work, polyIn, valuesIn, withValues, withFold, treeStart, treeIn, rootIn, committed, layered, allLayered, begun}
 use Rattle.writer_model.proofs.Stands.{Stands}
 
@@ -95,12 +94,13 @@ padded-full size f e =
 module _ (hash : List ℕ → Digest) (p : Params) (g : List ℕ) (j : ℕ) where
   -- The leaves over a layer's values are the ones of its polynomial.
   pub leaf-row : j < p .n → leafRow hash (height p j) (values (p .n) j g) ≡ leaves hash p g j
-  unfolding leafRow leaves leafOf values layerSize half
+  unfolding leafRow leaves leafOf values layerSize
   leaf-row h =
       let twice : 2 ^ (p .n - j) ≡ 2 * 2 ^ (p .n - suc j) = halves (p .n) j h in
       tabulate-same (2 ^ (p .n - suc j)) _ _
       (λ m l. ap₂ (λ a b. leaf hash (a ∷ b ∷ [])) (tabulate-at (2 ^ (p .n - j)) _ m 0 (omega arith))
-      (tabulate-at (2 ^ (p .n - j)) _ (m + 2 ^ (p .n - suc j)) 0 (omega arith)))
+      (tabulate-at (2 ^ (p .n - j)) _ (m + 2 ^ (p .n - suc j)) 0 (omega arith))
+      ∙ ap (leaf hash) (sym (leaf-two p g j m)))
 
   -- Leaves and roots are digests, so the tree has its size.
   module _ (size : (xs : List ℕ) → length (hash xs) ≡ 32) where
@@ -114,7 +114,7 @@ module _ (hash : List ℕ → Digest) (p : Params) (g : List ℕ) (j : ℕ) wher
     pub leaf-length : (m : ℕ) → m < length (leaves hash p g j) → length (getD (leaves hash p g j) m []) ≡ 32
     unfolding leaves leafOf leaf
     leaf-length m h =
-        ap length (tabulate-at (half (p .n) j) (leafOf hash p g j) m [] (omega (arith, tabulate-length (half (p .n) j) (leafOf hash p g j))))
+        ap length (tabulate-at (leafCount p j) (leafOf hash p g j) m [] (omega (arith, tabulate-length (leafCount p j) (leafOf hash p g j))))
         ∙ size _
 
     pub commit-length : length (commit hash p g j) ≡ 32

@@ -1,15 +1,16 @@
 -- The openings read from the writer's buffers, once all layers are done, are those of the built proof. Assumes nothing.
-use Prim.Native.Nat.{ℕ, zero, suc, _+_, _%_, _<_}
+use Prim.Native.Nat.{ℕ, zero, suc, _+_, _*_, _%_, _<_}
 use mathlib.Core.List.{List, _∷_, _++_, map}
 use mathlib.Core.Path.{_≡_, refl, sym, ap, ap₂, _∙_}
+use native.Mathlib.Nat.{suc-mul, mul-le-mul-right}
 use native.Mathlib.Omega.{arith}
 use lib.ListN.{length, getD}
 use Rattle.params.specs.declared.Params.{Params}
-use Rattle.params.specs.Parameters.{Valid, height, indexBits, finalCount}
-use Rattle.message.specs.Bytes.{le, joined, part}
+use Rattle.params.specs.Parameters.{Valid, depth, valuesPerLeaf, height, leafCount, indexBits, finalCount}
+use Rattle.message.specs.Bytes.{joined, part, words}
 use Rattle.message.specs.Message.{Digest}
-use Rattle.domain.specs.Domain.{half, point}
-use Rattle.domain.proofs.Index.{mod-half}
+use Rattle.params.proofs.LeafLaws.{leaf-lt}
+use Rattle.domain.specs.Domain.{point}
 use Rattle.transcript.specs.Transcript.{finish, drawn}
 use Rattle.fold.specs.Poly.{eval}
 use Rattle.fri.specs.Encoding.{tabulate, openingBytes, queryBytes}
@@ -18,9 +19,9 @@ use Rattle.buffer.proofs.Placed.{part-number}
 use Rattle.polynomial.specs.Polynomial.{layerSize, values}
 use Rattle.tree.specs.Tree.{siblingsIn, treeSize}
 use Rattle.tree.proofs.Path.{siblings-path}
-use Rattle.built.specs.Built.{leaves, layerAt, builtLeaf, openingOf, build}
+use Rattle.built.specs.Built.{leafValues, leaves, layerAt, builtLeaf, openingOf, build}
 use Rattle.built.proofs.Layers.{leaves-length}
-use Rattle.writer_model.specs.Work.{Work, polyIn, valuesIn, treeStart, openingIn, queryIn, queriesIn, finalIn}
+use Rattle.writer_model.specs.Work.{Work, polyIn, valuesIn, treeStart, leafIn, openingIn, queryIn, queriesIn, finalIn}
 use Rattle.writer_model.proofs.Stands.{Stands}
 use Rattle.writer_model.proofs.Layers.{halves, leaf-length}
 
@@ -30,10 +31,14 @@ unfolding tabulate
 map-tabulate f zero g = refl
 map-tabulate f (suc n) g = ap (λ xs. f (g 0) ∷ xs) (map-tabulate f n (λ i. g (suc i)))
 
--- A layer has two points for each leaf.
-layer-halves : (n j : ℕ) → j < n → layerSize n j ≡ half n j + half n j
-unfolding layerSize half
-layer-halves n j h = halves n j h ∙ omega arith
+-- A layer has as many points as its leaves have values, and value r of leaf m is one of them.
+layer-leaves : (p : Params) (j : ℕ) → j < p .n → layerSize (p .n) (depth p j) ≡ valuesPerLeaf p * leafCount p j
+unfolding layerSize
+layer-leaves p j h = halves (p .n) j h
+
+index-lt : (p : Params) (j m r : ℕ) → j < p .n → m < leafCount p j → r < valuesPerLeaf p → m + r * leafCount p j < layerSize (p .n) (depth p j)
+index-lt p j m r h l k =
+    omega (arith, layer-leaves p j h, mul-le-mul-right {m = suc r} {n = valuesPerLeaf p} (leafCount p j) k, suc-mul r (leafCount p j))
 
 module _ (hash : List ℕ → Digest) (size : (xs : List ℕ) → length (hash xs) ≡ 32) (p : Params) (context f file : List ℕ) (v : Valid p)
     (w : Work) (stands : Stands hash p context f file (p .k) w) where
@@ -48,22 +53,21 @@ module _ (hash : List ℕ → Digest) (size : (xs : List ℕ) → length (hash x
       ∙ ap (λ xs. getD xs i 0) (stands .values-in j h)
       ∙ tabulate-at (layerSize (p .n) j) _ i 0 l
 
-  siblings-in : (j m : ℕ) → j < p .k → m < half (p .n) j
+  siblings-in : (j m : ℕ) → j < p .k → m < leafCount p j
       → siblingsIn (height p j) (part (treeStart p j) (treeSize (height p j)) (w .bytes)) m ≡ joined (openingOf hash p context f j m .siblings)
-  unfolding openingOf half
+  unfolding openingOf
   siblings-in j m h l =
       ap (λ t. siblingsIn (height p j) t m) (stands .tree-in j h)
       ∙ siblings-path hash size (height p j) (leaves hash p (poly j) j) m (leaves-length hash p (poly j) j) l (leaf-length hash p (poly j) j size)
 
   -- The opening of leaf m of layer j.
-  pub opening-built : (j m : ℕ) → j < p .k → m < half (p .n) j
+  pub opening-built : (j m : ℕ) → j < p .k → m < leafCount p j
       → openingIn p j m (w .numbers) (w .bytes) ≡ openingBytes (openingOf hash p context f j m)
-  unfolding openingIn openingBytes openingOf
+  unfolding openingIn leafIn leafValues openingBytes openingOf
   opening-built j m h l =
-      let halves : layerSize (p .n) j ≡ half (p .n) j + half (p .n) j = layer-halves (p .n) j (omega arith) in
-      let along : layerSize (p .n) j + m + half (p .n) j ≡ layerSize (p .n) j + (m + half (p .n) j) = omega arith in
-      ap₂ (λ a r. le 4 a ++ r) (value-in j m h (omega arith))
-      (ap₂ (λ a r. le 4 a ++ r) (ap (λ i. getD (w .numbers) i 0) along ∙ value-in j (m + half (p .n) j) h (omega arith)) (siblings-in j m h l))
+      ap₂ (λ vs r. words vs ++ r)
+      (tabulate-same (valuesPerLeaf p) _ _ (λ r b. value-in j (m + r * leafCount p j) h (index-lt p j m r (omega arith) l b)))
+      (siblings-in j m h l)
 
   -- The final coefficients, and so the leaves that are drawn.
   pub final-built : finalIn p hash w ≡ poly (p .k)
@@ -75,11 +79,11 @@ module _ (hash : List ℕ → Digest) (size : (xs : List ℕ) → length (hash x
   leaf-built i = ap₂ (λ s g. drawn hash (finish hash s g) (indexBits p) i) (stands .state) final-built
 
   -- The openings of the query at leaf m, and those of all queries.
-  query-built : (m : ℕ) → queryIn p m (w .numbers) (w .bytes) ≡ queryBytes (tabulate (p .k) (λ j. openingOf hash p context f j (m % half (p .n) j)))
+  query-built : (m : ℕ) → queryIn p m (w .numbers) (w .bytes) ≡ queryBytes (tabulate (p .k) (λ j. openingOf hash p context f j (m % leafCount p j)))
   unfolding queryIn queryBytes
   query-built m =
       ap joined
-      (tabulate-same (p .k) _ _ (λ j h. opening-built j (m % half (p .n) j) h (mod-half (p .n) j m)) ∙ sym (map-tabulate openingBytes (p .k) _))
+      (tabulate-same (p .k) _ _ (λ j h. opening-built j (m % leafCount p j) h (leaf-lt p j m)) ∙ sym (map-tabulate openingBytes (p .k) _))
 
   pub queries-built : queriesIn p hash (finish hash (w .state) (finalIn p hash w)) (w .numbers) (w .bytes)
       ≡ joined (map queryBytes (build hash p context f .queries))

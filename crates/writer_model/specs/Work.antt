@@ -5,10 +5,9 @@ use mathlib.Core.List.{List, _++_}
 use lib.ListN.{take, getD}
 use lib.Seq.{sets}
 use Rattle.params.specs.declared.Params.{Params}
-use Rattle.params.specs.Parameters.{headerSize, header, height, indexBits, finalCount, rootCountOffset, rootOffset, finalCountOffset, coefficientOffset, queryCountOffset, queriesOffset}
+use Rattle.params.specs.Parameters.{headerSize, header, depth, valuesPerLeaf, height, leafCount, indexBits, finalCount, rootCountOffset, rootOffset, finalCountOffset, coefficientOffset, queryCountOffset, queriesOffset}
 use Rattle.message.specs.Bytes.{le, joined, part, words}
 use Rattle.message.specs.Message.{Digest}
-use Rattle.domain.specs.Domain.{half}
 use Rattle.merkle.specs.Merkle.{rootOf}
 use Rattle.transcript.specs.Transcript.{start, absorb, challenge, finish, drawn}
 use Rattle.fold.specs.Poly.{fold}
@@ -29,31 +28,32 @@ work numbers bytes file state = record { numbers = numbers; bytes = bytes; file 
 module _ (p : Params) where
   -- Layer j's polynomial, and its values.
   unfoldable pub polyIn : ℕ → List ℕ → List ℕ
-  polyIn j numbers = take (2 ^ (p .n - p .b - j)) numbers
+  polyIn j numbers = take (2 ^ (p .n - p .b - depth p j)) numbers
 
   unfoldable pub valuesIn : ℕ → List ℕ → List ℕ
-  valuesIn j numbers = part (layerSize (p .n) j) (layerSize (p .n) j) numbers
+  valuesIn j numbers = part (layerSize (p .n) (depth p j)) (layerSize (p .n) (depth p j)) numbers
 
   -- The numbers after layer j's evaluation, and after its fold.
   unfoldable pub withValues : ℕ → List ℕ → List ℕ
-  withValues j numbers = sets numbers (layerSize (p .n) j) (values (p .n) j (polyIn j numbers))
+  withValues j numbers = sets numbers (layerSize (p .n) (depth p j)) (values (p .n) (depth p j) (polyIn j numbers))
 
   unfoldable pub withFold : ℕ → ℕ → List ℕ → List ℕ
   withFold j β numbers = sets numbers 0 (fold β (polyIn j numbers))
 
   -- Where layer j's tree starts.
   abbrev pub treeStart : ℕ → ℕ
-  treeStart j = 32 * layerSize (p .n) j
+  treeStart j = 32 * layerSize (p .n) (depth p j)
+
+  -- The values of leaf m of layer j.
+  unfoldable pub leafIn : ℕ → ℕ → List ℕ → List ℕ
+  leafIn j m numbers = tabulate (valuesPerLeaf p) (λ r. getD numbers (layerSize (p .n) (depth p j) + (m + r * leafCount p j)) 0)
 
   -- The bytes of the opening of leaf m of layer j, those of a query, and those of all queries.
   unfoldable pub openingIn : ℕ → ℕ → List ℕ → List ℕ → List ℕ
-  openingIn j m numbers bytes =
-      le 4 (getD numbers (layerSize (p .n) j + m) 0)
-      ++ (le 4 (getD numbers (layerSize (p .n) j + m + half (p .n) j) 0)
-      ++ siblingsIn (height p j) (part (treeStart j) (treeSize (height p j)) bytes) m)
+  openingIn j m numbers bytes = words (leafIn j m numbers) ++ siblingsIn (height p j) (part (treeStart j) (treeSize (height p j)) bytes) m
 
   unfoldable pub queryIn : ℕ → List ℕ → List ℕ → List ℕ
-  queryIn m numbers bytes = joined (tabulate (p .k) (λ j. openingIn j (m % half (p .n) j) numbers bytes))
+  queryIn m numbers bytes = joined (tabulate (p .k) (λ j. openingIn j (m % leafCount p j) numbers bytes))
 
   -- The file with section 1 and section 2's count.
   abbrev pub headIn : List ℕ → List ℕ

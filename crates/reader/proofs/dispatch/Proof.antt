@@ -57,29 +57,23 @@ after-query-count-requires c κs = search needs
 enum-told-8 : tie.Need-enum-told-8
 enum-told-8 c = search needs
 
-after-first-requires : tie.Need-after-first-requires
-after-first-requires c κs = search needs
+after-value-requires : tie.Need-after-value-requires
+after-value-requires c κs = search needs
 
 enum-told-9 : tie.Need-enum-told-9
 enum-told-9 c = search needs
 
-after-second-requires : tie.Need-after-second-requires
-after-second-requires c κs = search needs
+after-sibling-requires : tie.Need-after-sibling-requires
+after-sibling-requires c κs = search needs
 
 enum-told-10 : tie.Need-enum-told-10
 enum-told-10 c = search needs
 
-after-sibling-requires : tie.Need-after-sibling-requires
-after-sibling-requires c κs = search needs
-
-enum-told-11 : tie.Need-enum-told-11
-enum-told-11 c = search needs
-
 refuse-requires : tie.Need-refuse-requires
 refuse-requires c κs = search needs
 
-enum-told-12 : tie.Need-enum-told-12
-enum-told-12 c = search needs
+enum-told-11 : tie.Need-enum-told-11
+enum-told-11 c = search needs
 
 returns : tie.Need-returns
 returns c = core-at _ _ _ (c .before .enum-told .given .1) refl (c .after-count .ensures)
@@ -103,19 +97,16 @@ returns-7 : tie.Need-returns-7
 returns-7 c = core-at _ _ _ (c .before .enum-told7 .given .1) refl (c .after-query-count .ensures)
 
 returns-8 : tie.Need-returns-8
-returns-8 c = core-at _ _ _ (c .before .enum-told8 .given .1) refl (c .after-first .ensures)
+returns-8 c = core-at _ _ _ (c .before .before .enum-told8 .given .1) refl (c .after-value .ensures)
 
 returns-9 : tie.Need-returns-9
-returns-9 c = core-at _ _ _ (c .before .before .enum-told9 .given .1) refl (c .after-second .ensures)
+returns-9 c = core-at _ _ _ (c .before .before .before .enum-told9 .given .1) refl (c .after-sibling .ensures)
 
 returns-10 : tie.Need-returns-10
-returns-10 c = core-at _ _ _ (c .before .before .before .enum-told10 .given .1) refl (c .after-sibling .ensures)
+returns-10 c = core-at _ _ _ (c .before .enum-told10 .given .1) refl (c .refuse .ensures)
 
 returns-11 : tie.Need-returns-11
-returns-11 c = core-at _ _ _ (c .before .enum-told11 .given .1) refl (c .refuse .ensures)
-
-returns-12 : tie.Need-returns-12
-returns-12 c = core-at _ _ _ (c .enum-told12 .given .1) refl refl
+returns-11 c = core-at _ _ _ (c .enum-told11 .given .1) refl refl
 
 pub dispatch-spec : {M : Type 1} → statement M
 dispatch-spec =
@@ -138,14 +129,12 @@ dispatch-spec =
     enum-told-7
     after-query-count-requires
     enum-told-8
-    after-first-requires
+    after-value-requires
     enum-told-9
-    after-second-requires
-    enum-told-10
     after-sibling-requires
-    enum-told-11
+    enum-told-10
     refuse-requires
-    enum-told-12
+    enum-told-11
     returns
     returns-2
     returns-3
@@ -156,5 +145,4 @@ dispatch-spec =
     returns-8
     returns-9
     returns-10
-    returns-11
-    returns-12)
+    returns-11)

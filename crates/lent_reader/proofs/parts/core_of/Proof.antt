@@ -1,6 +1,9 @@
 -- `lent_reader::parts::core_of` meets its contract.
 -- Assumes nothing.
+use mathlib.Core.Path.{_≡_}
+use lib.ListN.{length}
 use Rattle.lent_reader.specs.Held.{coreOf}
+use Rattle.lent_reader.proofs.Laws.{last-four}
 use borrow.Author.Needs.{needs}
 use Rattle.lent_reader.proofs.parts.core_of.Statement.{statement}
 use Rattle.lent_reader.proofs.parts.core_of.Tie as tie
@@ -11,60 +14,74 @@ array-read-stage-of c = search needs
 stage-of-requires : tie.Need-stage-of-requires
 stage-of-requires c κs = search needs
 
-array-read-t13 : tie.Need-array-read-t13
-array-read-t13 c = search needs
+array-read-t17 : tie.Need-array-read-t17
+array-read-t17 c = search needs
 
-array-read-t18 : tie.Need-array-read-t18
-array-read-t18 c = search needs
+array-read-t20 : tie.Need-array-read-t20
+array-read-t20 c = search needs
 
-array-read-t22 : tie.Need-array-read-t22
-array-read-t22 c = search needs
+array-read-t23 : tie.Need-array-read-t23
+array-read-t23 c = search needs
 
-array-read-t25 : tie.Need-array-read-t25
-array-read-t25 c = search needs
+array-read-t26 : tie.Need-array-read-t26
+array-read-t26 c = search needs
 
-array-read-t28 : tie.Need-array-read-t28
-array-read-t28 c = search needs
+array-read-t14 : tie.Need-array-read-t14
+array-read-t14 c = search needs
 
-array-read-t31 : tie.Need-array-read-t31
-array-read-t31 c = search needs
+array-read-t26-2 : tie.Need-array-read-t26-2
+array-read-t26-2 c = search needs
 
 array-read-t34 : tie.Need-array-read-t34
 array-read-t34 c = search needs
 
-array-read-t38 : tie.Need-array-read-t38
-array-read-t38 c = search needs
+array-read-t37 : tie.Need-array-read-t37
+array-read-t37 c = search needs
 
-array-read-t41 : tie.Need-array-read-t41
-array-read-t41 c = search needs
+array-read-t40 : tie.Need-array-read-t40
+array-read-t40 c = search needs
 
-array-read-t44 : tie.Need-array-read-t44
-array-read-t44 c = search needs
+array-read-t43 : tie.Need-array-read-t43
+array-read-t43 c = search needs
 
-array-read-t47 : tie.Need-array-read-t47
-array-read-t47 c = search needs
+array-read-t46 : tie.Need-array-read-t46
+array-read-t46 c = search needs
 
-array-read-t50 : tie.Need-array-read-t50
-array-read-t50 c = search needs
+array-read-t23-2 : tie.Need-array-read-t23-2
+array-read-t23-2 c = search needs
 
-array-read-t54 : tie.Need-array-read-t54
-array-read-t54 c = search needs
+array-read-t52 : tie.Need-array-read-t52
+array-read-t52 c = search needs
 
-array-read-t57 : tie.Need-array-read-t57
-array-read-t57 c = search needs
+array-read-t55 : tie.Need-array-read-t55
+array-read-t55 c = search needs
 
-array-read-t60 : tie.Need-array-read-t60
-array-read-t60 c = search needs
+array-read-t58 : tie.Need-array-read-t58
+array-read-t58 c = search needs
 
-array-read-t63 : tie.Need-array-read-t63
-array-read-t63 c = search needs
+array-read-t61 : tie.Need-array-read-t61
+array-read-t61 c = search needs
 
-array-read-t66 : tie.Need-array-read-t66
-array-read-t66 c = search needs
+array-read-t64 : tie.Need-array-read-t64
+array-read-t64 c = search needs
+
+array-read-t20-2 : tie.Need-array-read-t20-2
+array-read-t20-2 c = search needs
+
+array-read-t17-2 : tie.Need-array-read-t17-2
+array-read-t17-2 c = search needs
+
+array-read-t72 : tie.Need-array-read-t72
+array-read-t72 c = search needs
+
+array-read-t75 : tie.Need-array-read-t75
+array-read-t75 c = search needs
 
 returns : tie.Need-returns
 unfolding coreOf
-returns c = rw (c .stage-of .ensures)
+returns c =
+    let long : length (c .before .args .t2) ≡ 10 = search needs in
+    rw (c .stage-of .ensures, ← last-four (c .before .args .t2) long)
 
 pub core-of-spec : {M : Type 1} → statement M
 core-of-spec =
@@ -72,21 +89,25 @@ core-of-spec =
     (tie.spec
     array-read-stage-of
     stage-of-requires
-    array-read-t13
-    array-read-t18
-    array-read-t22
-    array-read-t25
-    array-read-t28
-    array-read-t31
+    array-read-t17
+    array-read-t20
+    array-read-t23
+    array-read-t26
+    array-read-t14
+    array-read-t26-2
     array-read-t34
-    array-read-t38
-    array-read-t41
-    array-read-t44
-    array-read-t47
-    array-read-t50
-    array-read-t54
-    array-read-t57
-    array-read-t60
-    array-read-t63
-    array-read-t66
+    array-read-t37
+    array-read-t40
+    array-read-t43
+    array-read-t46
+    array-read-t23-2
+    array-read-t52
+    array-read-t55
+    array-read-t58
+    array-read-t61
+    array-read-t64
+    array-read-t20-2
+    array-read-t17-2
+    array-read-t72
+    array-read-t75
     returns)

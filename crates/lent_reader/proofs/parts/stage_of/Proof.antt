@@ -48,13 +48,9 @@ returns-10 c = ap stageOf (sym (c .match .keys10))
 
 returns-11 : tie.Need-returns-11
 unfolding stageOf
-returns-11 c = ap stageOf (sym (c .match .keys11))
-
-returns-12 : tie.Need-returns-12
-unfolding stageOf
-returns-12 c =
+returns-11 c =
     let rest = c .match .rest in
-    simp (ne-eqb, rest .1, rest .0 .1, rest .0 .0 .1, rest .0 .0 .0 .1, rest .0 .0 .0 .0 .1, rest .0 .0 .0 .0 .0 .1, rest .0 .0 .0 .0 .0 .0 .1, rest .0 .0 .0 .0 .0 .0 .0 .1, rest .0 .0 .0 .0 .0 .0 .0 .0 .1, rest .0 .0 .0 .0 .0 .0 .0 .0 .0 .1, rest .0 .0 .0 .0 .0 .0 .0 .0 .0 .0 .1)
+    simp (ne-eqb, rest .1, rest .0 .1, rest .0 .0 .1, rest .0 .0 .0 .1, rest .0 .0 .0 .0 .1, rest .0 .0 .0 .0 .0 .1, rest .0 .0 .0 .0 .0 .0 .1, rest .0 .0 .0 .0 .0 .0 .0 .1, rest .0 .0 .0 .0 .0 .0 .0 .0 .1, rest .0 .0 .0 .0 .0 .0 .0 .0 .0 .1)
 
 pub stage-of-spec : {M : Type 1} → statement M
 stage-of-spec =
@@ -70,5 +66,4 @@ stage-of-spec =
     returns-8
     returns-9
     returns-10
-    returns-11
-    returns-12)
+    returns-11)

@@ -16,7 +16,7 @@ moved-requires c κs = search needs
 
 returns : tie.Need-returns
 unfolding nextLayer
-returns c = c .moved .ensures ∙ taken _ (lt-ltb _ _ (c .before .before .before .if1 .taken))
+returns c = c .moved .ensures ∙ taken _ (lt-ltb _ _ (c .before .before .before .before .if1 .taken))
 
 is-final-requires : tie.Need-is-final-requires
 is-final-requires c κs = search needs

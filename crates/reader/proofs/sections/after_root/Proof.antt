@@ -35,15 +35,15 @@ moved-requires-2 c κs = search needs
 returns : tie.Need-returns
 unfolding afterRoot rootsAfter challengesAfter rootState
 returns c = (
-  rw (← (c .before .before .before .before .before .before .before .before .layer .ensures .0)) (c .moved .ensures ∙ taken _ (lt-ltb _ _ (c .before .before .if1 .taken))),
-  (c .before .before .before .before .before .put-root .ensures, rw (← (c .before .before .before .before .before .before .before .before .layer .ensures .1)) refl),
+  rw (← (c .before .before .before .before .before .before .before .before .before .layer .ensures .0)) (c .moved .ensures ∙ taken _ (lt-ltb _ _ (c .before .before .if1 .taken))),
+  (c .before .before .before .before .before .before .put-root .ensures, rw (← (c .before .before .before .before .before .before .before .before .before .layer .ensures .1)) refl),
 )
 
 returns-2 : tie.Need-returns-2
 unfolding afterRoot rootsAfter challengesAfter rootState
 returns-2 c = (
-  rw (← (c .before .before .before .before .before .before .before .before .layer .ensures .0)) (c .moved2 .ensures ∙ left _ (le-ltb _ _ (c .before .before .if1 .left))),
-  (c .before .before .before .before .before .put-root .ensures, rw (← (c .before .before .before .before .before .before .before .before .layer .ensures .1)) refl),
+  rw (← (c .before .before .before .before .before .before .before .before .before .layer .ensures .0)) (c .moved2 .ensures ∙ left _ (le-ltb _ _ (c .before .before .if1 .left))),
+  (c .before .before .before .before .before .before .put-root .ensures, rw (← (c .before .before .before .before .before .before .before .before .before .layer .ensures .1)) refl),
 )
 
 pub after-root-spec : {M : Type 1} → statement M

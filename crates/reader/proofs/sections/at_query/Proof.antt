@@ -10,7 +10,7 @@ draw-requires c κs = search needs
 
 returns : tie.Need-returns
 unfolding atQuery
-returns c = simp (c .before .before .before .before .draw .ensures)
+returns c = simp (c .before .before .before .before .before .draw .ensures)
 
 pub at-query-spec : {M : Type 1} → statement M
 at-query-spec = tie.close (tie.spec draw-requires returns)

@@ -30,7 +30,7 @@ opening-requires c κs =
     let a = c .before .before .before .before .before .before .before .before .args in
     let l = c .before .before .before .before .loop in
     let room = opening-room (a .p) (a .at) (l .j) (length (now (a .file))) (search needs) (l .inv .0 .1 .1) (c .before .before .before .before .before .before .before .before .pre .1 .1 .1) in
-    ((search needs, (search needs, leaf-below (a .p .n) (l .j) (a .m) (c .before .leaf-of .ensures))), (search needs, (search needs, omega (arith, room))))
+    ((search needs, (search needs, leaf-below (a .p) (l .j) (a .m) (c .before .leaf-of .ensures))), (search needs, (search needs, omega (arith, room))))
 
 opening-length-requires : tie.Need-opening-length-requires Inv-loop μ-loop
 opening-length-requires c κs = search needs
