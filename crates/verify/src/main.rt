@@ -7,6 +7,10 @@ use libc::STDOUT_FILENO;
 // More reads than any job needs: each brings a byte, and a job is settled after 36 bytes, L more and one.
 const READS: u32 = 1000000;
 
+// How often in a row a read is tried that was interrupted or would have to wait: there is no call that waits for a descriptor, so that these are some
+// seconds in which the processor is offered to others. After them the read has failed.
+const TRIES: u32 = 10000000;
+
 // What a read left: the job, whether there may be more to read, and whether the read failed.
 struct Turn {
     state: Job,
@@ -14,10 +18,32 @@ struct Turn {
     failed: bool,
 }
 
-// Reads once, and feeds what came.
+// Whether a read that failed with this error may succeed later: no byte is lost by trying it again.
+fn is_passing(error: i32) -> bool {
+    error == libc::EINTR || error == libc::EAGAIN
+}
+
+// Reads until a read succeeds, or fails for good.
+fn read_again(buf: &mut [u8]) -> isize {
+    let mut left = TRIES;
+    while 0 < left {
+        let got = libc::read(0, buf);
+        if 0 <= got {
+            return got;
+        }
+        if !is_passing(os::errno()) {
+            return got;
+        }
+        libc::sched_yield();
+        left -= 1;
+    }
+    libc::read(0, buf)
+}
+
+// Reads, and feeds what came.
 fn read_some(state: Job) -> Turn {
     let mut buf = io::buffer();
-    let got = libc::read(0, &mut buf);
+    let got = read_again(&mut buf);
     if got < 0 {
         return Turn {
             state,
