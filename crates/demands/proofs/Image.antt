@@ -12,7 +12,8 @@ use Rattle.params.specs.Parameters.{fileLength}
 use Rattle.calls.specs.Calls.{Call, piece, end, hasEnd, endsOnce, stateAfter, answers, next, leaves, given, nth, lastOr, lastGiven, Refuses, Reader as Calls}
 use Rattle.calls.specs.Plain.{Table}
 use Rattle.calls.specs.Demand3.{Demand3, StateRule, PrefixRule, SizeRule, Agree, InPieces, toPiece}
-use Rattle.demands.specs.Demands.{WhenValid, WhenNot, Demands}
+use Rattle.reader_model.specs.declared.Tables.{Tables}
+use Rattle.demands.specs.Demands.{States, WhenValid, WhenNot, Demands}
 
 -- The state h of the reader b stands for the state s of r where h is f s.
 pub record Stands {S H : Type 0} (f : S → H) (r : Calls S) (b : Calls H) : Type 0 where
@@ -115,16 +116,20 @@ module _ {S H : Type 0} (f : S → H) (r : Calls S) (b : Calls H) (i : Stands f 
         accepted-place = λ n h e. place-of (nth-image cs n) ∙ z .accepted-place n h (was cs n accepted e);
       }
 
-  other-image : {opening : Answer} {shut : S} → WhenNot opening shut r → WhenNot opening (f shut) b
-  other-image w =
+  -- The states by their parts.
+  abbrev image : (H → Tables) → States S → States H
+  image tables k = record { shut = f (k .shut); tablesIn = tables; refusedWith = λ a t. f (k .refusedWith a t) }
+
+  other-image : (tables : H → Tables) {opening : Answer} {k : States S} → WhenNot opening k r → WhenNot opening (image tables k) b
+  other-image tables w =
       record {
         refuses = w .refuses;
         closed-each = λ cs n h. nth-image cs n ∙ w .closed-each cs n h;
         stays = λ cs. leaves-image cs ∙ ap f (w .stays cs);
       }
 
-  module _ {p : Params} {context : List ℕ} {opening : Answer} {shut : S} where
-    valid-image : WhenValid p context opening shut r → WhenValid p context opening (f shut) b
+  module _ (p : Params) (context : List ℕ) (opening : Answer) (k : States S) (tables : H → Tables) (same-tables : (s : S) → tables (f s) ≡ k .tablesIn s) where
+    valid-image : WhenValid p context opening k r → WhenValid p context opening (image tables k) b
     valid-image w =
         record {
           opens = w .opens;
@@ -143,13 +148,17 @@ module _ {S H : Type 0} (f : S → H) (r : Calls S) (b : Calls H) (i : Stands f 
           prefixes = prefix-image (w .prefixes);
           sizes = λ cs. size-image (fileLength p) cs (w .sizes cs);
           closes = λ cs e. leaves-image cs ∙ ap f (w .closes cs e);
+          refused-leaves = λ cs x e g.
+              piece-left cs (x ∷ []) ∙ ap f (w .refused-leaves cs x e (subst Refuses (to-piece cs (x ∷ [])) g))
+              ∙ ap (λ (a : Answer). f (k .refusedWith a (k .tablesIn (leaves r cs)))) (sym (to-piece cs (x ∷ [])))
+              ∙ ap (λ (t : Tables). f (k .refusedWith (toPiece b cs (x ∷ [])) t)) (sym (ap tables (leaves-image cs) ∙ same-tables (leaves r cs)));
         }
 
-    pub demands-image : Demands p context opening shut r → Demands p context opening (f shut) b
+    pub demands-image : Demands p context opening k r → Demands p context opening (image tables k) b
     demands-image d =
         record {
           valid-opening = λ v. valid-image (d .valid-opening v);
-          other-opening = λ n. other-image (d .other-opening n);
+          other-opening = λ n. other-image tables (d .other-opening n);
           plainly = λ cs. given-image cs ∙ d .plainly cs;
           row-10 = d .row-10;
           row-11 = λ cs n h.

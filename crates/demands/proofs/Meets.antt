@@ -14,26 +14,34 @@ use Rattle.params.specs.Parameters.{Valid, valid}
 use Rattle.params.proofs.ParameterLaws.{valid-facts, valid-test}
 use Rattle.fri.specs.Judge.{verdict}
 use Rattle.rules.proofs.Exactly.{piece-exactly, verdict-exactly}
-use Rattle.calls.specs.Calls.{Call, hasEnd, given, nth, Reader as Calls}
+use Rattle.calls.specs.Calls.{Call, hasEnd, leaves, given, nth, Reader as Calls}
 use Rattle.calls.specs.Plain.{Plain, holds, plain}
 use Rattle.calls.specs.Demand3.{Demand3}
 use Rattle.reader_model.specs.declared.Reader.{Reader}
-use Rattle.reader_model.specs.State.{closedState}
-use Rattle.reader_model.specs.Model.{opened, pieced, ended}
+use Rattle.reader_model.specs.declared.Core.{Core}
+use Rattle.reader_model.specs.State.{stopped, closedState}
+use Rattle.reader_model.specs.Model.{opened, pieced, fed, ended, isStopped}
 use Rattle.reader_model.specs.Claim.{table, reader, Opened, Refused}
 use Rattle.reader_model.proofs.Theorem.{claim}
 use Rattle.lent_reader.specs.Held.{Held, heldOf, readerOf, outcomeOf, boundary}
 use Rattle.lent_reader.proofs.Through.{round-trip}
 use Rattle.built.proofs.Built.{built-accepted}
-use Rattle.demands.specs.Demands.{plainTable, Closed, after-end, after-refusal, WhenValid, WhenNot, Demands, Readers}
+use Rattle.demands.specs.Demands.{plainTable, byValueStates, lentStates, Closed, after-end, after-refusal, WhenValid, WhenNot, Demands, Readers}
 use Rattle.demands.proofs.Plainly.{shut-same, answers-same, table-rule, open-number}
+use Rattle.demands.proofs.Keeps.{step-keeps}
 use Rattle.demands.proofs.Image.{Stands, demands-image}
 
 module _ (p : Params) (context : List ℕ) where
   abbrev r : Calls Reader
   r = reader sha256 p context
 
-  valid-demands : Valid p → WhenValid p context (opened sha256 p context .answer) closedState r
+  -- What a refused byte leaves.
+  refused-state : (s : Reader) (x : ℕ) {a : Answer} → pieced sha256 s (x ∷ []) .state .core ≡ stopped a
+      → pieced sha256 s (x ∷ []) .state ≡ record { core = stopped a; tables = s .tables }
+  unfolding pieced fed
+  refused-state s x e = rw (e, step-keeps sha256 s x (ap (λ (c : Core). isStopped (c .stage)) e))
+
+  valid-demands : Valid p → WhenValid p context (opened sha256 p context .answer) byValueStates r
   valid-demands v =
       let c : (cs : List Call) → Opened sha256 p context cs = λ cs. claim .opened sha256 p context cs v in
       record {
@@ -56,9 +64,10 @@ module _ (p : Params) (context : List ℕ) where
         prefixes = c [] .prefixes;
         sizes = λ cs. c cs .sizes;
         closes = λ cs. c cs .closed-state;
+        refused-leaves = λ cs x e g. refused-state (leaves r cs) x (c cs .refused-core (x ∷ []) e g);
       }
 
-  other-demands : ¬ Valid p → WhenNot (opened sha256 p context .answer) closedState r
+  other-demands : ¬ Valid p → WhenNot (opened sha256 p context .answer) byValueStates r
   other-demands n =
       let c : (cs : List Call) → Refused sha256 p context cs = λ cs. claim .refused sha256 p context cs n in
       record { refuses = c [] .answer; closed-each = λ cs. c cs .closed-each; stays = λ cs. c cs .fixed }
@@ -114,7 +123,7 @@ module _ (p : Params) (context : List ℕ) where
           by (is-valid v) = ap (λ (a : Answer). a .number) (claim .opened sha256 p context cs v .demand3 .after-end i h f)
           by (is-not n) = ap (λ (a : Answer). a .number) (other-demands n .closed-each cs i h)
 
-  by-value : Demands p context (opened sha256 p context .answer) closedState r
+  by-value : Demands p context (opened sha256 p context .answer) byValueStates r
   by-value = record {
     valid-opening = valid-demands;
     other-opening = other-demands;
@@ -134,9 +143,11 @@ module _ (p : Params) (context : List ℕ) where
     end-answer = λ s. ap (λ (x : Reader). ended x .answer) (round-trip s);
   }
 
-  lent : Demands p context (outcomeOf (opened sha256 p context) .answer) (heldOf closedState) (boundary sha256 p context)
-  unfolding outcomeOf
-  lent = demands-image heldOf r (boundary sha256 p context) held-stands by-value
+  lent : Demands p context (outcomeOf (opened sha256 p context) .answer) lentStates (boundary sha256 p context)
+  unfolding outcomeOf heldOf
+  lent =
+      demands-image heldOf r (boundary sha256 p context) held-stands p context (opened sha256 p context .answer) byValueStates (λ h. h .tables) (λ s. refl)
+      by-value
 
   pub meets : Readers p context
   meets = record { table-rule = λ v. table-rule p context v; by-value = by-value; lent = lent }
