@@ -22,7 +22,7 @@ LIBRARY = {"mathlib", "Prim", "native", "lib", "borrow"}
 LANGUAGE = set("λ . , ( ) { } ⌜ ⌝ × → :".split())  # the contract language's own signs
 WORDS = {"now", "entry", "exit", "tt"}  # its own words: a reference's value, at the call and at the return
 ASSEMBLES = {"replied", "outcome", "buffer"}  # records made of their arguments: an equation of one pins every argument
-OUTSIDE = {"job::judge"}  # its result hangs on what a descriptor gives: the contract states what all correct ones have in common
+OUTSIDE = set()  # public calls whose result no contract can pin: none
 BY_POWERS_OF_TWO = ["field", "fold"]  # their code divides and takes remainders by nothing else (request 2026-03)
 TESTS_ONLY = {"test_exports"}  # passes calls on to the comparisons; no interface for users
 

@@ -1,4 +1,5 @@
 // Judges the jobs of the file `jobs` and writes the line of each. A job stands after its length, 4 bytes, low byte first.
+use job::Job;
 use libc::STDOUT_FILENO;
 ghost use Prim.Native.Nat.{_≤_, _<_};
 
@@ -23,19 +24,31 @@ fn chunk(rest: u32) -> usize
     if rest < 4096 { rest as usize } else { 4096 }
 }
 
-// Passes over so many bytes; false where the file ends before.
-fn skip(fd: i32, count: u32) -> bool {
+// What was read of a job: its state, and whether all of its bytes came.
+struct Read {
+    state: Job,
+    whole: bool,
+}
+
+// Reads a job of so many bytes.
+fn read_job(fd: i32, count: u32) -> Read {
+    let mut state = job::begin();
     let mut rest = count;
     while 0 < rest {
         let want = chunk(rest);
         let mut buf = io::buffer();
         let got = io::read_full(fd, &mut buf[..want]);
         if got < want {
-            return false;
+            return Read {
+                state,
+                whole: false,
+            };
         }
+        let next = job::feed(state, &buf[..want]);
+        state = next;
         rest -= want as u32;
     }
-    true
+    Read { state, whole: true }
 }
 
 // One job; false where the file ends.
@@ -45,12 +58,15 @@ fn run_job(fd: i32) -> bool {
     if got < 4 {
         return false;
     }
-    let judged = job::judge(fd, length_of(&size));
-    let line = job::line(judged.answer);
+    let read = read_job(fd, length_of(&size));
+    if !read.whole {
+        return false;
+    }
+    let line = job::line(job::finish(read.state));
     let bytes = line.bytes;
     let length = line.length;
     io::write_all(STDOUT_FILENO, &bytes[..length]);
-    skip(fd, judged.rest)
+    true
 }
 
 fn main() {

@@ -1,29 +1,105 @@
--- The user's second and third demand, of the reader that the code is: its calls are the right-hand sides of the contracts of `open`, `piece` and `end`, with
--- SHA-256 for the hash. The first demand is the contracts themselves.
-use Prim.Native.Nat.{ℕ, _^_, _-_, _≤_}
-use mathlib.Core.Bool.{true}
-use mathlib.Core.List.{List}
+-- The user's second and third demand, and document 01's table and rules, of the two readers that the code is: the one by value, and the one that a caller
+-- holds in arrays which it lends. Their calls are the right-hand sides of the contracts of `open`, `piece` and `end`, with SHA-256 for the hash. The
+-- first demand is the contracts themselves.
+use Prim.Native.Nat.{ℕ, _^_, _-_, _≤_, _<_}
+use mathlib.Core.Bool.{true, false, not}
+use mathlib.Core.List.{List, [], _∷_, _++_}
 use mathlib.Core.Logic.{_↔_}
+use mathlib.Core.Option.{none, some}
 use mathlib.Core.Path.{_≡_}
-use lib.ListN.{length}
-use Rattle.answer.specs.Table.{answered, accepted}
+use lib.Dec.{eqb}
+use lib.ListN.{length, take}
+use Rattle.answer.specs.declared.Answer.{Answer}
+use Rattle.answer.specs.Table.{answered, open-so-far, accepted, parameters-not-valid, closed}
 use Rattle.sha256.specs.Sha256.{sha256}
 use Rattle.message.proofs.Bytes.{Bytes}
 use Rattle.params.specs.declared.Params.{Params}
-use Rattle.params.specs.Parameters.{fileLength}
+use Rattle.params.specs.Parameters.{Valid, valid, fileLength}
 use Rattle.fri.specs.Accepted.{Accepted}
-use Rattle.calls.specs.Calls.{Call, endsOnce, joined, lastGiven}
-use Rattle.calls.specs.Demand3.{Demand3}
+use Rattle.rules.specs.Rules.{Refused, NoFault, PieceRow, VerdictRow}
+use Rattle.calls.specs.Calls.{Call, hasEnd, endsOnce, joined, leaves, given, nth, lastGiven, Refuses, Reader as Calls}
+use Rattle.calls.specs.Plain.{Table, decide, plain}
+use Rattle.calls.specs.Demand3.{Demand3, StateRule, PrefixRule, SizeRule, toPiece}
+use Rattle.reader_model.specs.declared.Tables.{Tables}
+use Rattle.reader_model.specs.declared.Reader.{Reader}
+use Rattle.reader_model.specs.State.{stopped, closedState}
+use Rattle.reader_model.specs.Model.{opened}
 use Rattle.reader_model.specs.Claim.{table, reader}
+use Rattle.lent_reader.specs.Held.{Held, heldOf, outcomeOf, boundary}
 use Rattle.built.specs.Built.{builtFile}
 
-pub record Demands (p : Params) (context : List ℕ) : Type 0 where
+-- The plain reader's table in document 01's words: the bytes are a whole file if they are as many as L. Which byte decides which refusal is said row by
+-- row in `TableRule`.
+abbrev pub plainTable : Params → List ℕ → Table
+plainTable p context = record { refusal = table sha256 p context .refusal; whole = λ bs. eqb (length bs) (fileLength p) }
+
+-- What the plain reader finds in the bytes bs is what the rows say: the one refusal by the rows, or none where no rule holds.
+pub record TableRule (p : Params) (context : List ℕ) : Type 0 where
+  pub refuses : (bs : List ℕ) (c d : ℕ) → decide (plainTable p context) bs ≡ some (answered c d) ↔ Refused sha256 p context bs c d
+  pub silent : (bs : List ℕ) → decide (plainTable p context) bs ≡ none ↔ NoFault sha256 p context bs
+
+-- A reader is closed for the call after these: an end call is among them, or the opening was refused.
+pub data Closed (p : Params) (before : List Call) : Type 0 where
+  after-end : hasEnd before ≡ true → Closed p before
+  after-refusal : ¬ Valid p → Closed p before
+
+-- A reader's states by their parts: the closed one, the tables in a state, and a refused one, of its answer and its tables.
+pub record States (S : Type 0) : Type 0 where
+  pub shut : S
+  pub tablesIn : S → Tables
+  pub refusedWith : Answer → Tables → S
+
+-- Of a reader whose opening gave this answer. First, opened with valid parameters.
+pub record WhenValid {S : Type 0} (p : Params) (context : List ℕ) (opening : Answer) (k : States S) (r : Calls S) : Type 0 where
+  pub opens : opening ≡ answered open-so-far 0
   -- The second demand, first half: after any pieces, the end call answers accepted, at L, exactly if the bytes have the published layout and everything in
   -- them holds.
   pub accepts-exactly : (cs : List Call) → endsOnce cs ≡ true → Bytes (joined cs)
-      → (lastGiven (reader sha256 p context) cs ≡ answered accepted (fileLength p)) ↔ Accepted sha256 p context (joined cs)
+      → (lastGiven r cs ≡ answered accepted (fileLength p)) ↔ Accepted sha256 p context (joined cs)
   -- Its second half: the proof built from any polynomial under the degree bound is accepted, in whatever pieces it comes.
   pub accepts-built : (f : List ℕ) → length f ≤ 2 ^ (p .n - p .b) → (cs : List Call) → endsOnce cs ≡ true
-      → joined cs ≡ builtFile sha256 p context f → lastGiven (reader sha256 p context) cs ≡ answered accepted (fileLength p)
+      → joined cs ≡ builtFile sha256 p context f → lastGiven r cs ≡ answered accepted (fileLength p)
   -- The third demand.
-  pub any-list : (cs : List Call) → Demand3 (table sha256 p context) (reader sha256 p context) cs
+  pub any-list : (cs : List Call) → Demand3 (plainTable p context) r cs
+  -- The table: what a piece gets after calls with no end call among them, and what the first end call gets, by the rows.
+  pub piece-row : (cs : List Call) (xs : List ℕ) → hasEnd cs ≡ false → (c d : ℕ)
+      → (toPiece r cs xs ≡ answered c d) ↔ PieceRow sha256 p context (joined cs ++ xs) c d
+  pub end-row : (cs : List Call) → endsOnce cs ≡ true → (c d : ℕ) → (lastGiven r cs ≡ answered c d) ↔ VerdictRow sha256 p context (joined cs) c d
+  -- The rules on refused and closed states, on inputs that agree up to a byte, and on the file's size.
+  pub states : (cs : List Call) → StateRule r cs
+  pub prefixes : PrefixRule r
+  pub sizes : (cs : List Call) → SizeRule (fileLength p) r cs
+  -- What is left behind. By an end call and any call after it: the closed state. By a byte that is refused: the refused state with its answer, and with
+  -- the tables that were there before it. (Pieces leave what their bytes leave one by one, and a piece after a refusal leaves the state as it is.)
+  pub closes : (cs : List Call) → hasEnd cs ≡ true → leaves r cs ≡ k .shut
+  pub refused-leaves : (cs : List Call) (x : ℕ) → hasEnd cs ≡ false → Refuses (toPiece r cs (x ∷ []))
+      → r .pieceNext (leaves r cs) (x ∷ []) ≡ k .refusedWith (toPiece r cs (x ∷ [])) (k .tablesIn (leaves r cs))
+
+-- Opened with others: 10 at 0, and then closed, in the one closed state.
+pub record WhenNot {S : Type 0} (opening : Answer) (k : States S) (r : Calls S) : Type 0 where
+  pub refuses : opening ≡ answered parameters-not-valid 0
+  pub closed-each : (cs : List Call) (i : ℕ) → i < length cs → nth r cs i ≡ answered closed 0
+  pub stays : (cs : List Call) → leaves r cs ≡ k .shut
+
+-- With any parameters.
+pub record Demands {S : Type 0} (p : Params) (context : List ℕ) (opening : Answer) (k : States S) (r : Calls S) : Type 0 where
+  pub valid-opening : Valid p → WhenValid p context opening k r
+  pub other-opening : ¬ Valid p → WhenNot opening k r
+  -- Every answer is the plain reader's, which is closed from the start exactly if the opening is refused by its rules.
+  pub plainly : (cs : List Call) → given r cs ≡ given (plain (plainTable p context) (not (valid p))) cs
+  -- 10 is the opening's answer exactly if the parameters are not valid; 11 is a call's number exactly if the reader is closed for it.
+  pub row-10 : (opening .number ≡ parameters-not-valid) ↔ (¬ Valid p)
+  pub row-11 : (cs : List Call) (i : ℕ) → i < length cs → (nth r cs i .number ≡ closed) ↔ Closed p (take i cs)
+
+-- The states of the reader by value, and of the one that a caller holds.
+abbrev pub byValueStates : States Reader
+byValueStates = record { shut = closedState; tablesIn = λ r. r .tables; refusedWith = λ a t. record { core = stopped a; tables = t } }
+
+abbrev pub lentStates : States Held
+lentStates = record { shut = heldOf closedState; tablesIn = λ h. h .tables; refusedWith = λ a t. heldOf (record { core = stopped a; tables = t }) }
+
+-- Of both readers.
+pub record Readers (p : Params) (context : List ℕ) : Type 0 where
+  pub table-rule : Valid p → TableRule p context
+  pub by-value : Demands p context (opened sha256 p context .answer) byValueStates (reader sha256 p context)
+  pub lent : Demands p context (outcomeOf (opened sha256 p context) .answer) lentStates (boundary sha256 p context)

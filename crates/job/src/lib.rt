@@ -1,171 +1,188 @@
-// Jobs: the parameter bytes, 32 context bytes, then the proof. A job is read from a file in chunks, with fixed memory, and judged; its answer makes a
-// line, `accepted L` or `refused NUMBER at PLACE`.
+// Jobs: the parameter bytes, 32 context bytes, then the proof. A job is fed in chunks, with fixed memory, and judged at its end; its answer makes a line,
+// `accepted L` or `refused NUMBER at PLACE`. Nothing here reads or writes: a program moves the bytes, and decides nothing.
 ghost use mathlib.Core.Path.{_≡_};
+ghost use mathlib.Core.Bool.{cond};
 ghost use Prim.Native.Nat.{_+_, _-_, _≤_, _<_};
+ghost use lib.Dec.{eqb};
 ghost use lib.ListN.{length};
-ghost use Rattle.io.specs.Counts.{Counts};
-ghost use Rattle.answer.specs.Table.{answered, job-too-short};
-ghost use Rattle.job.specs.Job.{headSize, Answers};
+ghost use Rattle.params.specs.Parameters.{fromHeader};
+ghost use Rattle.job.specs.Job.{headSize};
+ghost use Rattle.job.specs.Chunks.{openedBy, begun, taken, fedChunk, finished, isSettled};
 ghost use Rattle.job.specs.Line.{lineOf, stored, decimal};
-ghost use Rattle.job.specs.Private.{Feeds, Judges, longer};
+ghost use Rattle.job.specs.Private.{longer};
+ghost use Rattle.reader_model.specs.Model.{isStopped};
 use answer::Answer;
 use params::Params;
 use reader_model::Reader;
+use reader_model::Stage;
 
-// The bytes of a job's head: parameters and context.
+// The bytes of a job's head, parameters and context, and the place of the last.
 const HEAD_SIZE: usize = params::HEADER_SIZE + 32;
 
-// A job's answer, and how many bytes of the most that it may have are still to be read.
-pub struct Judged {
-    pub answer: Answer,
-    pub rest: u32,
+const HEAD_LAST: usize = HEAD_SIZE - 1;
+
+// A job so far: how many bytes of its head came, the head, zeros where none came yet, and the reader that the proof goes to, closed until the head is
+// whole.
+pub struct Job {
+    pub got: usize,
+    pub head: [u8; HEAD_SIZE],
+    pub reader: Reader,
 }
 
-// What one read left: the state, how many bytes were fed, and whether no byte so far is refused.
-struct Turn {
-    state: Reader,
-    fed: usize,
-    clean: bool,
-}
-
-// What the reads left: the state, and how many bytes are still to be read.
-struct Fed {
-    state: Reader,
-    rest: u32,
-}
-
-fn least(a: usize, b: usize) -> usize
-    ensures { λ r. ⌜ (r ≤ a) × (r ≤ b) ⌝ }
+// The parameters in a head.
+fn parameters_of(head: [u8; HEAD_SIZE]) -> Params
+    ensures { λ r. ⌜ r ≡ fromHeader head ⌝ }
 {
-    if a < b { a } else { b }
-}
-
-// How much of the rest one read asks for.
-fn chunk(rest: u32) -> usize
-    requires { ⌜ 0 < rest ⌝ }
-    ensures { λ r. ⌜ (0 < r) × ((r ≤ 4096) × (r ≤ rest)) ⌝ }
-{
-    if rest < 4096 { rest as usize } else { 4096 }
-}
-
-// Reads once. Where the file ends, or a read fails, nothing comes.
-fn read_some(fd: i32, part: &mut [u8]) -> usize
-    ensures { λ r. ⌜ Counts r (now (part .exit)) ⌝ }
-{
-    let got = libc::read(fd, part);
-    io::count(got, part)
-}
-
-// Reads once, and feeds what came.
-fn feed_some(fd: i32, state: Reader, want: usize) -> Turn
-    requires { ⌜ want ≤ 4096 ⌝ }
-    ensures { λ r. ⌜ (r .fed ≤ want) × Feeds state (r .fed) (r .state) ⌝ }
-{
-    let mut buf = io::buffer();
-    let n = least(read_some(fd, &mut buf[..want]), want);
-    let reply = reader::piece(state, &buf[..n]);
-    let next = reply.state;
-    let clean = reply.answer.number == answer::OPEN;
-    Turn {
-        state: next,
-        fed: n,
-        clean,
+    Params {
+        n: head[0],
+        b: head[1],
+        k: head[2],
+        q: head[3],
     }
 }
 
-// Feeds at most so many bytes, and stops after the first piece refused.
-fn feed_all(fd: i32, state: Reader, most: u32) -> Fed
-    ensures { λ r. ⌜ (r .rest ≤ most) × Feeds state (most - r .rest) (r .state) ⌝ }
+// The reader that a whole head opens.
+fn open_reader(head: [u8; HEAD_SIZE]) -> Reader
+    ensures { λ r. ⌜ r ≡ openedBy head ⌝ }
+{
+    let mut context = [0u8; 32];
+    buffer::put(&mut context, 0, &head[params::HEADER_SIZE..]);
+    let opened = reader::open(parameters_of(head), context);
+    opened.state
+}
+
+// The reader after byte `at` of the head, counted from 0: the last one opens it.
+fn reader_after(at: usize, head: [u8; HEAD_SIZE], before: Reader) -> Reader
+    ensures { λ r. ⌜ r ≡ cond (eqb at (headSize - 1)) (openedBy head) before ⌝ }
+{
+    if at == HEAD_LAST {
+        open_reader(head)
+    } else {
+        before
+    }
+}
+
+// One byte more of the head.
+fn head_byte(state: Job, byte: u8) -> Job
+    requires { ⌜ state .got < headSize ⌝ }
+    ensures { λ r. ⌜ r ≡ taken state byte ⌝ }
+{
+    let at = state.got;
+    let mut head = state.head;
+    head[at] = byte;
+    let before = state.reader;
+    let reader = reader_after(at, head, before);
+    Job {
+        got: at + 1,
+        head,
+        reader,
+    }
+}
+
+// Bytes of the proof, after a whole head.
+fn proof_bytes(state: Job, bytes: &[u8]) -> Job
+    requires { ⌜ headSize ≤ state .got ⌝ }
+    ensures { λ r. ⌜ r ≡ fedChunk state (now (bytes .entry)) ⌝ }
+{
+    let got = state.got;
+    let head = state.head;
+    let before = state.reader;
+    let reply = reader::piece(before, bytes);
+    let reader = reply.state;
+    Job { got, head, reader }
+}
+
+// A job of which no byte came yet.
+pub fn begin() -> Job
+    ensures { λ r. ⌜ r ≡ begun ⌝ }
+{
+    let none = Params {
+        n: 0,
+        b: 0,
+        k: 0,
+        q: 0,
+    };
+    let opened = reader::open(none, [0u8; 32]);
+    let reader = opened.state;
+    Job {
+        got: 0,
+        head: [0u8; HEAD_SIZE],
+        reader,
+    }
+}
+
+// The job with a chunk more, of any bytes or none.
+pub fn feed(state: Job, chunk: &[u8]) -> Job
+    ensures { λ r. ⌜ r ≡ fedChunk state (now (chunk .entry)) ⌝ }
 {
     let mut s = state;
-    let mut rest = most;
-    while 0 < rest {
-        let turn = feed_some(fd, s, chunk(rest));
-        s = turn.state;
-        let fed = turn.fed;
-        if fed == 0 {
-            return Fed { state: s, rest };
+    let mut i = 0;
+    while i < chunk.len() {
+        let got = s.got;
+        if HEAD_SIZE <= got {
+            return proof_bytes(s, &chunk[i..]);
         }
-        rest -= fed as u32;
-        if !turn.clean {
-            return Fed { state: s, rest };
-        }
+        let next = head_byte(s, chunk[i]);
+        s = next;
+        i += 1;
     }
-    Fed { state: s, rest }
+    s
 }
 
-// The answer to a job with this head, whose proof has at most so many bytes.
-fn judge_proof(fd: i32, p: Params, context: [u8; 32], most: u32) -> Judged
-    ensures { λ r. ⌜ Judges p context most r ⌝ }
+// The answer to the job, if it ends here.
+pub fn finish(state: Job) -> Answer
+    ensures { λ r. ⌜ r ≡ finished state ⌝ }
 {
-    let opened = reader::open(p, context);
-    if params::is_valid(p) {
-        let first = opened.state;
-        let fed = feed_all(fd, first, most);
-        let last = fed.state;
+    let got = state.got;
+    if got < HEAD_SIZE {
+        return Answer {
+            number: answer::JOB_TOO_SHORT,
+            place: got as u32,
+        };
+    }
+    let head = state.head;
+    if params::is_valid(parameters_of(head)) {
+        let last = state.reader;
         let end = reader::end(last);
-        let answer = end.answer;
-        Judged {
-            answer,
-            rest: fed.rest,
-        }
+        return end.answer;
+    }
+    Answer {
+        number: answer::PARAMETERS_NOT_VALID,
+        place: 0,
+    }
+}
+
+fn is_stopped(stage: Stage) -> bool
+    ensures { λ r. ⌜ r ≡ isStopped stage ⌝ }
+{
+    match stage {
+        Stage::ParameterCount => false,
+        Stage::Parameters => false,
+        Stage::RootCount => false,
+        Stage::Root => false,
+        Stage::CoefficientCount => false,
+        Stage::Coefficient => false,
+        Stage::QueryCount => false,
+        Stage::Value => false,
+        Stage::Sibling => false,
+        Stage::Tail => false,
+        Stage::Stopped => true,
+    }
+}
+
+// Whether no byte more can change the job's answer, so that the rest need not be read.
+pub fn settled(state: Job) -> bool
+    ensures { λ r. ⌜ r ≡ isSettled state ⌝ }
+{
+    let got = state.got;
+    let last = state.reader;
+    let core = last.core;
+    let stage = core.stage;
+    if HEAD_SIZE <= got {
+        is_stopped(stage)
     } else {
-        let answer = opened.answer;
-        Judged { answer, rest: most }
+        false
     }
-}
-
-// The answer to a job that ends in its head, after so many bytes.
-fn too_short(got: usize, most: u32) -> Judged
-    requires { ⌜ (got < headSize) × (got ≤ most) ⌝ }
-    ensures { λ r. ⌜ (r .answer ≡ answered job-too-short got) × (r .rest ≡ most - got) ⌝ }
-{
-    let place = got as u32;
-    let answer = Answer {
-        number: answer::JOB_TOO_SHORT,
-        place,
-    };
-    Judged {
-        answer,
-        rest: most - place,
-    }
-}
-
-// A job of at most so many bytes, too few for a head.
-fn judge_short(fd: i32, most: u32) -> Judged
-    requires { ⌜ most < headSize ⌝ }
-    ensures { λ r. ⌜ Answers most r ⌝ }
-{
-    let mut head = [0u8; HEAD_SIZE];
-    let want = most as usize;
-    let got = io::read_full(fd, &mut head[..want]);
-    too_short(least(got, want), most)
-}
-
-// The answer to the job that the file goes on with. It ends where the file does, and has at most so many bytes; no reader is open past byte L, so
-// that a most of u32::MAX is as good as none.
-pub fn judge(fd: i32, most: u32) -> Judged
-    ensures { λ r. ⌜ Answers most r ⌝ }
-{
-    if (most as usize) < HEAD_SIZE {
-        return judge_short(fd, most);
-    }
-    let mut header = [0u8; params::HEADER_SIZE];
-    let got = io::read_full(fd, &mut header);
-    if got < params::HEADER_SIZE {
-        return too_short(got, most);
-    }
-    let mut context = [0u8; 32];
-    let more = io::read_full(fd, &mut context);
-    if more < 32 {
-        return too_short(params::HEADER_SIZE + more, most);
-    }
-    judge_proof(
-        fd,
-        params::from_header(header),
-        context,
-        most - HEAD_SIZE as u32,
-    )
 }
 
 // A line: its characters, then zeros; and how many characters there are.

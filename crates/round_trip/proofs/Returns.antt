@@ -68,6 +68,6 @@ module _ (p : Params) (context f numbers bytes output : List ℕ) where
             let file : List ℕ = builtFile sha256 p context f in
             let front : take (fileLength p) (file ++ drop (fileLength p) output) ≡ file =
             take-at file _ (fileLength p) (built-length sha256 length-sha256 sha256-byte p context f (ok .parameters) (omega (arith, ok .count))) in
-            meets p context (ok .parameters) .accepts-built f (omega (arith, ok .count)) cs once
+            meets p context .by-value .valid-opening (ok .parameters) .accepts-built f (omega (arith, ok .count)) cs once
             (same ∙ ap (λ w. take (fileLength p) (w .output)) (succeeds p context f numbers bytes output number) ∙ front);
       }

@@ -6,10 +6,10 @@ use Rattle.corpus.proofs.run_job.Statement.{statement}
 use Rattle.corpus.proofs.run_job.Tie as tie
 
 array-share-prefix-bytes : tie.Need-array-share-prefix-bytes
-array-share-prefix-bytes c = line-counts (c .before .before .judge .result .answer) (search needs) (search needs) (c .before .line .ensures) .0
+array-share-prefix-bytes c = line-counts (c .before .before .finish .result) (search needs) (search needs) (c .before .line .ensures) .0
 
 slice-aggregate-write-all : tie.Need-slice-aggregate-write-all
-slice-aggregate-write-all c = line-counts (c .before .before .before .judge .result .answer) (search needs) (search needs) (c .before .before .line .ensures) .1
+slice-aggregate-write-all c = line-counts (c .before .before .before .finish .result) (search needs) (search needs) (c .before .before .line .ensures) .1
 
 pub run-job-spec : {M : Type 1} → statement M
 run-job-spec =
@@ -20,9 +20,10 @@ run-job-spec =
     (λ c. search needs)
     (λ c κs. search needs)
     (λ c κs. search needs)
+    (λ c. search needs)
+    (λ c κs. search needs)
     (λ c κs. search needs)
     array-share-prefix-bytes
     slice-aggregate-write-all
-    (λ c κs. search needs)
     (λ c κs. search needs)
     (λ c. search needs))

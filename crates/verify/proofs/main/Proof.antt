@@ -1,23 +1,32 @@
--- `verify::main` is safe: a line's array can be cut at its length.
+-- `verify::main` is safe and ends: a count falls with each read.
 -- Assumes nothing.
 use borrow.Author.Needs.{needs}
-use Rattle.job.proofs.Texts.{line-counts}
 use Rattle.verify.proofs.main.Statement.{statement}
 use Rattle.verify.proofs.main.Tie as tie
 
-array-share-prefix-bytes : tie.Need-array-share-prefix-bytes
-array-share-prefix-bytes c = line-counts (c .before .before .judge .result .answer) (search needs) (search needs) (c .before .line .ensures) .0
+abbrev Inv-loop : tie.InvT-loop
+Inv-loop state₀ left₀ t4 t5 state left = Unit {0}
 
-slice-aggregate-write-all : tie.Need-slice-aggregate-write-all
-slice-aggregate-write-all c = line-counts (c .before .before .before .judge .result .answer) (search needs) (search needs) (c .before .before .line .ensures) .1
+abbrev μ-loop : tie.MeasureT-loop
+μ-loop state₀ left₀ t4 t5 state left = left
 
 pub main-spec : {M : Type 1} → statement M
 main-spec =
     tie.close
     (tie.spec
+    Inv-loop
+    μ-loop
     (λ c κs. search needs)
+    (λ c. search needs)
     (λ c κs. search needs)
-    array-share-prefix-bytes
-    slice-aggregate-write-all
+    (λ c. search needs)
+    (λ c κs. search needs)
+    (λ c. search needs)
+    (λ c κs. search needs)
+    (λ c. search needs)
+    (λ c. search needs)
+    (λ c. search needs)
+    (λ c. search needs)
+    (λ c. search needs)
     (λ c κs. search needs)
     (λ c. search needs))
