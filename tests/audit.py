@@ -3,34 +3,45 @@
 
 For each public call (a `pub fn` that another crate can name, and every exported function) it prints signature and contract, and checks:
   total     it has no `requires`;
-  tight     it has an `ensures` that equates the result, or each of its fields, and what is left in everything lent by `&mut`, with a term in
-            which neither the result nor anything left behind occurs;
-  meaning   every symbol of the contract comes from the library, every other name from a `specs` file or the call's own parameters; and no
-            specs file defines, under its own meaning, a name that the library has.
-It checks that the code of the field and of what evaluates with it divides by powers of two alone.
+  tight     it has an `ensures` whose facts are equations. On the left stands the result, a field of it, or what is left in something lent by
+            `&mut`; or a record assembled of these alone. On the right stands a term in which neither the result nor anything left behind
+            occurs, and no sign of logic. Together they pin the whole result and everything lent;
+  meaning   every symbol of the contract comes from the library, every other name from a `specs` file or the call's own parameters. No name of
+            the library's is taken for anything else, neither by a definition of a specs file, public or private, nor by a renaming import, and
+            specs files import from the library and from specs files alone.
+What it cannot read it does not pass over: every `fn`, `mod`, `use` and `pub` of the code, every import of a specs file and every line of an edit
+has to have the form that it knows.
+It checks that the code of the field and of what evaluates with it, with every crate called from there, divides by powers of two alone.
 Then it checks the papers: each must-fail edit fits its file at exactly one place and is named in docs/PROMISES.md, each public call has its two
-wrong programs there, and every file that the papers name is there. No axiom is declared and no proof cites `lem` or `ac`.
+wrong programs there, the numbers of edits that it tells are the true ones, and every file that the papers name is there. No axiom is declared
+and no proof cites `lem` or `ac`.
 
 Usage: tests/audit.py [--list]     (--list prints the contracts; without it only the counts)
 """
 import re
 import sys
+from functools import cache
 from pathlib import Path
 
 ROOT = Path(__file__).resolve().parent.parent
 LIBRARY = {"mathlib", "Prim", "native", "lib", "borrow"}
+PRELUDE = set("IsProp IsSet ⊥ absurd ¬_ Dec yes no Discrete Unit tt Id J Path".split())  # the library's, with no import
 LANGUAGE = set("λ . , ( ) { } ⌜ ⌝ × → :".split())  # the contract language's own signs
 WORDS = {"now", "entry", "exit", "tt"}  # its own words: a reference's value, at the call and at the return
+TERMS = set("+ - * / % ^ ∷ [] ++".split())  # the signs that a term may have; any other sign is no term's
+EQUALITY = ("mathlib.Core.Path", "_≡_")
 ASSEMBLES = {"replied", "outcome", "buffer"}  # records made of their arguments: an equation of one pins every argument
 OUTSIDE = set()  # public calls whose result no contract can pin: none
-BY_POWERS_OF_TWO = ["field", "fold"]  # their code divides and takes remainders by nothing else (request 2026-03)
+BY_POWERS_OF_TWO = ["field", "fold"]  # their code, and what it calls, divides and takes remainders by nothing else (request 2026-03)
+WRAPPING = re.compile(r"wrapping_(add|sub)_u(8|16|32|64)")  # what that code may call of std::num
 TESTS_ONLY = {"test_exports"}  # passes calls on to the comparisons; no interface for users
 
 faults = []
 
 
 def fault(where, what):
-    faults.append(f"{where}: {what}")
+    if f"{where}: {what}" not in faults:
+        faults.append(f"{where}: {what}")
 
 
 def crates():
@@ -39,9 +50,20 @@ def crates():
             yield line.split(":")[0]
 
 
+TOKEN = re.compile(r'b"(?:[^"\\]|\\.)*"|"(?:[^"\\]|\\.)*"|b\'(?:[^\'\\]|\\.)[^\']*\'|//[^\n]*|/\*|\w+|\s+|->|=>|[<>=!]=|.', re.S)
+COMMENT = re.compile(r'b?"(?:[^"\\]|\\.)*"|b\'(?:[^\'\\]|\\.)[^\']*\'|//[^\n]*')
+
+
+@cache
 def bare(text):
-    """The text without comments."""
-    return re.sub(r"//[^\n]*", "", text)
+    """The text without comments: each becomes as many spaces."""
+    return COMMENT.sub(lambda m: " " * len(m.group()) if m.group().startswith("//") else m.group(), text)
+
+
+@cache
+def tokens(text):
+    """(token, start) for each token of a code, strings as one token."""
+    return [(m.group(), m.start()) for m in TOKEN.finditer(text) if not m.group().isspace()]
 
 
 def balanced(text, at, opening, closing):
@@ -62,44 +84,73 @@ class Call:
         self.requires, self.ensures, self.imports = requires, ensures, imports
 
 
-def imports_of(text, keyword):
-    """name → (root, whole path) for every `use` of the file; a module's alias ends in a dot."""
+def imports_of(text, keyword, where=None):
+    """name → (root, whole path, name there) for every `use` of the file; a module's alias ends in a dot."""
     found = {}
-    for path, names, alias in re.findall(rf"^ *{keyword}use ([^\s{{;]+?)(?:\.\{{([^}}]*)\}}| as (\S+?))?;?$", text, re.M):
+    for m in re.finditer(rf"^{keyword}use\b([^\n]*)", text, re.M):
+        line = re.fullmatch(r" ([^\s{};]+?)(?:\.\{([^{}]*)\}| as (\w+))?(?<!\*);? *", m.group(1))
+        if not line or ("." not in line.group(1)):
+            if where:
+                fault(where, f"an import that the audit cannot read: use{m.group(1)}")
+            continue
+        path, names, alias = line.groups()
         root = path.split(".")[0]
         if names:
-            for name in names.split(","):
-                name = name.strip()
-                found[name.split(" as ")[-1]] = (root, path, name.split(" as ")[0])
-        elif alias:
-            found[alias + "."] = (root, path, alias)
+            entries = [((n.strip().split(" as ") * 2)[1].strip(), n.strip().split(" as ")[0].strip()) for n in names.split(",")]
+        else:
+            entries = [((alias or path.split(".")[-1]) + ".", alias or "")]
+        for name, there in entries:
+            if name in found and where:
+                fault(where, f"'{name}' is imported twice")
+            if where and names and name != there and root in LIBRARY:
+                fault(where, f"'{there}' of the library is imported under another name, '{name}'")
+            found[name] = (root, path, there)
     return found
 
 
-def functions(text, crate, module, public_module):
+def functions(text, crate, module, public_module, where=None):
+    """Every function of a source file. What has another form than it knows is a fault of `where`."""
     text = bare(text)
-    imports = imports_of(text, "ghost ")
-    owners = [(m.start(), m.group(1)) for m in re.finditer(r"^impl(?:<[^>]*>)? (\w+)", text, re.M)]
-    for m in re.finditer(r'^( *)((?:pub )?)((?:extern "C" )?)fn (\w+)', text, re.M):
-        at = text.index("(", m.end())
+    imports = imports_of(text, "ghost ", where)
+    stream = tokens(text)
+    words = [t for t, _ in stream]
+    owners, owner, depth = [], None, 0  # the `impl` that each token stands in
+    for i, t in enumerate(words):
+        if t == "impl" and depth == 0:
+            names = [w for w in words[i + 1 : words.index("{", i)] if re.match(r"[A-Z]", w)]
+            owner = names[-1] if names else None
+        depth += (t == "{") - (t == "}")
+        owners.append(owner if depth else None)
+        if depth == 0 and t == "}":
+            owner = None
+    for i, t in enumerate(words):
+        if t != "fn":
+            continue
+        j = i - 1
+        exported = j >= 1 and words[j] == '"C"' and words[j - 1] == "extern"
+        j -= 2 if exported else 0
+        public = j >= 0 and words[j] == "pub"
+        name = words[i + 1]
+        head = text[stream[j][1] if public else stream[i][1] : stream[i + 1][1]]
+        if where and head != ("pub " if public else "") + ('extern "C" ' if exported else "") + "fn ":
+            fault(where, f"a function that the audit cannot read: {' '.join(head.split())} {name}")
+        at = text.index("(", stream[i + 1][1])
         end = balanced(text, at, "(", ")")
         params = text[at + 1 : end - 1]
         clauses = {"requires": [], "ensures": []}
-        result = None
-        while True:
-            brace = text.index("{", end)
-            between = text[end:brace].strip()
-            if result is None:
-                result = re.sub(r"\s*(requires|ensures)$", "", between).removeprefix("->").strip()
-            word = between.split()[-1] if between.split() else ""
-            if word not in clauses:
+        m = re.compile(r"\s*(?:->\s*([^{}]*?))?\s*(?=\b(?:requires|ensures)\b|\{)").match(text, end)
+        result, end = (m.group(1) or "").strip(), m.end()
+        while not text.startswith("{", end):
+            m = re.compile(r"(requires|ensures)(?:\s+\w+)?\s*\{").match(text, end)
+            if not m:
+                if where:
+                    fault(where, f"a contract that the audit cannot read: {name}")
                 break
-            end = balanced(text, brace, "{", "}")
-            clauses[word].append(" ".join(text[brace + 1 : end - 1].split()))
-        owner = [o for s, o in owners if s < m.start()] if m.group(1) else []
-        name = "::".join([crate] + ([module] if module else []) + owner[-1:] + [m.group(4)])
-        public = bool(m.group(3)) or (bool(m.group(2)) and public_module)
-        yield Call(name, public, params, result, clauses["requires"], clauses["ensures"], imports)
+            close = balanced(text, m.end() - 1, "{", "}")
+            clauses[m.group(1)].append(" ".join(text[m.end() : close - 1].split()))
+            end = close + len(text[close:]) - len(text[close:].lstrip())
+        whole = "::".join([crate] + ([module] if module else []) + ([owners[i]] if owners[i] else []) + [name])
+        yield Call(whole, exported or (public and public_module), params, result, clauses["requires"], clauses["ensures"], imports)
 
 
 def source(crate):
@@ -111,15 +162,46 @@ def source(crate):
     text = bare(lib.read_text())
     found = [(lib, "", True)]
     for public, name in re.findall(r"^(pub )?mod (\w+);", text, re.M):
-        found.append((src / f"{name}.rt", name, bool(public)))
+        if (src / f"{name}.rt").exists():
+            found.append((src / f"{name}.rt", name, bool(public)))
+        else:
+            fault((src / f"{name}.rt").relative_to(ROOT), "not there")
     return found
+
+
+def check_forms():
+    """Modules, imports and what is public have the forms that the audit knows, in files that it reads."""
+    for crate in crates():
+        read = source(crate)
+        for path in (ROOT / "crates" / crate / "src").rglob("*"):
+            if path.is_file() and path not in [p for p, _, _ in read]:
+                fault(path.relative_to(ROOT), "a source file that the audit does not read")
+        for path, module, _ in read:
+            where = path.relative_to(ROOT)
+            text = bare(path.read_text())
+            words = [t for t, _ in tokens(text)]
+            if "/*" in words:
+                fault(where, "a comment between /* and */")
+            lines = len(re.findall(r"^(?:pub )?mod \w+;$", text, re.M))
+            if words.count("mod") != (0 if module else lines):
+                fault(where, "a module that the audit does not read")
+            if words.count("ghost") != len(re.findall(r"^ghost use [^\n]*;$", text, re.M)):
+                fault(where, "an import that the audit cannot read")
+            for a, b in zip(words, words[1:]):
+                if a == "pub" and not (b in {"fn", "extern", "mod", "struct", "enum", "const"} or b.isidentifier() and b not in {"use", "type"}):
+                    fault(where, f"'pub {b}'")
+            for a, b, c in zip(words, words[1:], words[2:]):
+                if a == "extern" and (b != '"C"' or c != "fn"):
+                    fault(where, f"'extern {b} {c}'")
 
 
 def structs():
     found = {}
     for crate in crates():
         for path, _, _ in source(crate):
-            for name, fields in re.findall(r"pub struct (\w+)(?:<[^>]*>)? \{([^}]*)\}", bare(path.read_text())):
+            for name, fields in re.findall(r"pub struct (\w+)(?:<[^>]*>)?\s*\{([^}]*)\}", bare(path.read_text())):
+                if name in found:
+                    fault(path.relative_to(ROOT), f"a second public struct {name}")
                 found[name] = {f.split(":")[0].replace("pub", "").strip() for f in fields.split(",") if f.strip()}
     return found
 
@@ -139,62 +221,127 @@ def parameters(call):
     for part in (p.strip() for p in parts):
         if part:
             name, _, kind = part.partition(":")
-            found[name.replace("mut ", "").replace("&", "").strip()] = kind.strip() or part
+            words = re.findall(r"\w+", re.sub(r"'\w+", "", name))
+            found[words[-1]] = kind.strip() or part
     return found
 
 
-def conjuncts(fact):
+def is_lent(kind):
+    return bool(re.match(r"&\s*(?:'\w+\s*)?mut\b", kind))
+
+
+def tree(text):
+    """A fact as a list of its words, each bracket a list of its own."""
+    stack = [[]]
+    for t in re.findall(r"[()]|[^\s()]+", text):
+        if t == "(":
+            stack.append([])
+        elif t == ")":
+            if len(stack) == 1:
+                raise ValueError("brackets")
+            last = stack.pop()
+            stack[-1].append(last)
+        else:
+            stack[-1].append(t)
+    if len(stack) != 1:
+        raise ValueError("brackets")
+    return stack[0]
+
+
+def split_at(items, sign):
+    parts = [[]]
+    for x in items:
+        if x == sign:
+            parts.append([])
+        else:
+            parts[-1].append(x)
+    return parts
+
+
+def conjuncts(items):
     """The facts that a fact joins by ×."""
-    fact = fact.strip()
-    while fact.startswith("(") and balanced(fact, 0, "(", ")") == len(fact):
-        fact = fact[1:-1].strip()
-    depth, cut = 0, []
-    for i, c in enumerate(fact):
-        depth += (c == "(") - (c == ")")
-        if c == "×" and depth == 0:
-            cut.append(i)
-    if not cut:
-        return [fact]
-    edges = [-1] + cut + [len(fact)]
-    return [f for a, b in zip(edges, edges[1:]) for f in conjuncts(fact[a + 1 : b])]
+    while len(items) == 1 and isinstance(items[0], list):
+        items = items[0]
+    parts = split_at(items, "×")
+    return [items] if len(parts) == 1 else [f for part in parts for f in conjuncts(part)]
+
+
+def leaves(items):
+    for x in items:
+        if isinstance(x, list):
+            yield from leaves(x)
+        else:
+            yield x
+
+
+def show(items):
+    return " ".join(f"({show(x)})" if isinstance(x, list) else x for x in items)
+
+
+def pinned_by(left, r):
+    """What a left side pins: "result", ".field" of it, or a lent name with or without a field; None if it is of no such form."""
+    while len(left) == 1 and isinstance(left[0], list):
+        left = left[0]
+    field = lambda x: isinstance(x, str) and re.fullmatch(r"\.\w+", x)
+    if r != "_" and left == [r]:
+        return ["result"]
+    if r != "_" and len(left) == 2 and left[0] == r and field(left[1]):
+        return [left[1]]
+    if len(left) in (2, 3) and left[0] == "now" and isinstance(left[1], list) and len(left[1]) == 2:
+        name, end = left[1]
+        if end == ".exit" and (len(left) == 2 or field(left[2])):
+            return [name + (left[2] if len(left) == 3 else "")]
+        if r != "_" and name == r and field(end) and len(left) == 2:
+            return [end]
+    if left and left[0] in ASSEMBLES:
+        inner = [pinned_by([x], r) for x in left[1:]]
+        return None if None in inner else [p for found in inner for p in found]
+    return None
 
 
 def check_tight(call, fields_of):
     pinned = set()
     for clause in call.ensures:
         m = re.fullmatch(r"λ (\w+)\. ⌜ (.*) ⌝", clause)
-        if not m:
+        if not m or re.search("[⌜⌝]", m.group(2)):
             fault(call.name, f"a contract that is no fact about the result: {clause}")
             return
         r = m.group(1)
-        for fact in conjuncts(m.group(2)):
-            left, sign, right = fact.partition(" ≡ ")
-            left = left.strip()
-            if not sign:
+        if r in parameters(call):
+            fault(call.name, f"the result has a parameter's name: {clause}")
+        for items in conjuncts(tree(m.group(2))):
+            fact = show(items)
+            sides = split_at(items, "≡")
+            if len(sides) != 2:
                 fault(call.name, f"not an equation: {fact}")
                 continue
-            if re.search(rf"(?<![\w.]){r}(?!\w)|\.exit", right) and r != "_":
+            left, right = sides
+            inside = list(leaves(right))
+            if (r != "_" and r in inside) or ".exit" in inside:
                 fault(call.name, f"the right side speaks of the result: {fact}")
-            for lent, field in re.findall(r"now \((\w+) \.exit\)(?: \.(\w+))?", left):
-                pinned.add(f"{lent}.{field}" if field else lent)
-            parts = [left]
-            if left.split(" ")[0] in ASSEMBLES:
-                parts = re.findall(rf"(?<= ){r}(?= )|\({r} \.\w+\)", left)
-            for part in parts:
-                m2 = re.fullmatch(rf"(?:now )?\(?{r}(?: \.(\w+))?\)?", part)
-                if m2:
-                    pinned.add("result" if not m2.group(1) else "." + m2.group(1))
+            signs = [x for x in inside if not re.match(r"[\w.]", x) and x not in TERMS] + [x for x in inside if x.startswith("λ")]
+            if signs:
+                fault(call.name, f"not an equation of a term: {signs[0]} in {fact}")
+            got = pinned_by(left, r)
+            if got is None:
+                fault(call.name, f"the left side is not the result, nor what is left: {fact}")
+            else:
+                pinned |= set(got)
     if call.result and "result" not in pinned:
         kind = call.result.split("::")[-1].split("<")[0]
         missing = fields_of.get(kind, {"result"}) - {f[1:] for f in pinned if f.startswith(".")}
         if missing:
             fault(call.name, f"the contract does not pin {', '.join(sorted(missing))} of {call.result}")
     for name, kind in parameters(call).items():
-        if not kind.startswith("&mut") or name in pinned:
+        if not is_lent(kind) or name in pinned:
             continue
         fields = fields_of.get(kind.split()[-1].split("::")[-1], {None})
         if not all(f"{name}.{field}" in pinned for field in fields):
             fault(call.name, f"the contract does not pin what is left in {name}")
+
+
+def is_specs(path):
+    return bool(re.match(r"Rattle·\w+(·specs)?\.specs\.", path + "."))
 
 
 def check_meaning(call):
@@ -204,6 +351,8 @@ def check_meaning(call):
         text = re.sub(r"λ \w+\.", " ", clause)
         text = re.sub(r" \.[\w-]+", " ", text)  # fields
         for token in re.findall(r"[^\s(){},]+", text):
+            if (token in WORDS or token in bound) and token in call.imports:
+                fault(call.name, f"'{token}' is a word of contracts, and imported")
             if token in LANGUAGE or token in known or token in bound or re.fullmatch(r"0x[0-9a-f]+|\d+", token):
                 continue
             symbol = not re.match(r"[A-Za-z]", token)
@@ -215,29 +364,49 @@ def check_meaning(call):
                 fault(call.name, f"'{token}' comes from nowhere")
             elif symbol and got[0] not in LIBRARY:
                 fault(call.name, f"the symbol '{token}' is not the library's: {got[1]}")
-            elif got[0] not in LIBRARY and ".specs." not in got[1]:
+            elif token == "≡" and (got[1], got[2]) != EQUALITY:
+                fault(call.name, f"'≡' is not equality: {got[1]}.{got[2]}")
+            elif got[0] not in LIBRARY and not is_specs(got[1]):
                 fault(call.name, f"'{token}' is not from a specs file: {got[1]}")
 
 
 def check_names():
-    """No name of the library's is defined by a specs file, or imported from one."""
-    files = [p for c in crates() for p in sorted((ROOT / "crates" / c / "specs").glob("*.antt"))]
+    """A name of the library's means that one thing in every specs file and contract, and specs files rest on specs files alone."""
+    files = [p for c in crates() for p in sorted((ROOT / "crates" / c / "specs").rglob("*.antt"))]
     texts = {p: re.sub(r"--[^\n]*", "", p.read_text()) for p in files}
     sources = {p: bare(p.read_text()) for c in crates() for p, _, _ in source(c)}
-    library = set()
-    uses = [imports_of(t, "") for t in texts.values()] + [imports_of(t, "ghost ") for t in sources.values()]
-    for found in uses:
-        library |= {name for name, (root, _, _) in found.items() if root in LIBRARY}
-    for found in uses:
-        for name, (root, path, _) in found.items():
-            if root not in LIBRARY and name in library:
-                fault(path, f"'{name}' is also a name of the library")
+    uses = {p: imports_of(t, "", p.relative_to(ROOT)) for p, t in texts.items()} | {p: imports_of(t, "ghost ") for p, t in sources.items()}
+    library = {}
+    for path, found in uses.items():
+        for name, (root, place, there) in found.items():
+            if root in LIBRARY and not name.endswith("."):
+                if library.setdefault(name, place) != place:
+                    fault(path.relative_to(ROOT), f"'{name}' is {place}'s here and {library[name]}'s elsewhere")
+    taken = {n.strip("_") for n in library} | PRELUDE
+    for path, found in uses.items():
+        for name, (root, place, _) in found.items():
+            if root not in LIBRARY and (name in library or name in PRELUDE or name.rstrip(".") in LIBRARY):
+                fault(path.relative_to(ROOT), f"'{name}' of {place} is also a name of the library")
+            if path in texts and root not in LIBRARY and not is_specs(place):
+                fault(path.relative_to(ROOT), f"a definition rests on {place}, which is no specs file")
     for path, text in texts.items():
-        for name in re.findall(r"^ *(?:unfoldable |abbrev )?(?:pub )(?:record |data )?(\S+)", text, re.M):
-            if name in library:
-                fault(path.relative_to(ROOT), f"defines '{name}', a name of the library")
+        where = path.relative_to(ROOT)
+        code = "\n".join(line for line in text.splitlines() if not re.match(r"use\b", line))
+        for line in re.findall(r"^.*(?<![\w-])(?:use|open|package)(?![\w-]).*$|^.*\{-.*$", code, re.M):
+            fault(where, f"a line that the audit cannot read: {line.strip()}")
+        here = {n.strip("_") for n, (root, _, _) in uses[path].items() if root in LIBRARY} | (PRELUDE & {"⊥", "absurd", "Unit", "tt", "Path"})
+        for token in set(re.findall(r"[^\s(){};,|.]+", re.sub(r"(?<=[\s({])\.[\w-]+", " ", code))):
+            if token in taken and token not in here:
+                fault(where, f"defines '{token}', a name of the library")
+        bound = set(re.findall(r"λ ([\w-]+)\.|\blet ([\w-]+)\b", code)) | set(re.findall(r"[({]([\w -]+) : ()", code))
+        declared = [line.partition(" : ")[0] for line in code.splitlines() if " : " in line and "=" not in line.partition(" : ")[0]]
+        names = {n for pair in bound for words in pair for n in words.split()}
+        names |= {n for d in declared if not re.search("[({→]", d) for n in d.split()[-1:]}
+        for name in names:
+            if name.strip("_") in taken:
+                fault(where, f"defines '{name}', a name of the library")
         if re.search(r"^\s*axiom\b", text, re.M):
-            fault(path.relative_to(ROOT), "declares an axiom")
+            fault(where, "declares an axiom")
     for path in ROOT.glob("crates/*/proofs/**/*.antt"):
         text = re.sub(r"--[^\n]*", "", path.read_text())
         if re.search(r"^\s*axiom\b|\bPrim\.Axiom\b|(?<![\w-])(?:lem|ac)(?![\w-])", text, re.M):
@@ -246,24 +415,44 @@ def check_names():
         fault(path.relative_to(ROOT), "unfinished")
 
 
+@cache
 def without_contracts(text):
     """The code alone: no comments, no imports of definitions, no contracts."""
     text = re.sub(r"^ *ghost use [^;]*;", "", bare(text), flags=re.M)
-    while m := re.search(r"\b(?:requires|ensures) \{", text):
+    while m := re.search(r"\b(?:requires|ensures)(?:\s+\w+)?\s*\{", text):
         text = text[: m.start()] + text[balanced(text, m.end() - 1, "{", "}") :]
     return text.split()
 
 
 def check_divisions():
-    """Every divisor in these crates is a numeral, or a constant of the file, that is a power of two; a divisor in brackets is none."""
-    for crate in BY_POWERS_OF_TWO:
+    """Every divisor in these crates, and in those that they call, is a numeral, or a constant of the file, that is a power of two; a divisor in
+    brackets is none."""
+    every, reached = set(crates()), list(BY_POWERS_OF_TWO)
+    for crate in reached:
         for path, _, _ in source(crate):
+            where = path.relative_to(ROOT)
             code = " ".join(without_contracts(path.read_text()))
-            constants = dict(re.findall(r"const (\w+): \w+ = (\d+);", code))
+            for called in re.findall(r"(?<!:)\b([a-z]\w*)::", code):
+                if called in every and called not in reached:
+                    reached.append(called)
+                elif called not in every and called not in {"std", "crate", "self", *(m for _, m, _ in source(crate))}:
+                    fault(where, f"calls {called}, which the audit does not read")
+            for module, name in re.findall(r"\bstd::(\w+)(?:::(\w+))?", code):
+                if module != "num" or not WRAPPING.fullmatch(name):
+                    fault(where, f"calls std::{module}::{name}")
+            constants = {}
+            for name, kind, value in re.findall(r"const (\w+) *: *(\w+) *= *([^;]*);", code):
+                constants[name] = value if name not in constants else "two constants"
             for divisor in re.findall(r"[/%]=? *([\w:]+|\S)", code):
                 number = constants.get(divisor, divisor)
-                if not number.isdecimal() or int(number).bit_count() != 1:
-                    fault(path.relative_to(ROOT), f"divides by {divisor}, not by a power of two")
+                bound = re.search(rf"\blet (?:mut )?{divisor}\b|\b{divisor} *: *(?!\w+ *=)\w+ *[,)]", code) if divisor in constants else None
+                if not number.isdecimal() or int(number).bit_count() != 1 or bound:
+                    fault(where, f"divides by {divisor}, not by a power of two")
+
+
+@cache
+def contracts(text):
+    return {f.name: (f.requires, f.ensures) for f in functions(text, "", "", True)}
 
 
 def kinds_of(before, after):
@@ -276,7 +465,7 @@ def kinds_of(before, after):
             continue
         if without_contracts(before[path]) != without_contracts(after[path]):
             kinds.add("code")
-        stated = [{f.name: (f.requires, f.ensures) for f in functions(text, "", "", True)} for text in (before[path], after[path])]
+        stated = [contracts(text) for text in (before[path], after[path])]
         if any(stated[1].get(name) != contract for name, contract in stated[0].items()):
             kinds.add("contract")
     return kinds
@@ -290,31 +479,53 @@ def is_program(kinds):
 def check_edits(promises):
     """crate → edit → what it changes."""
     edits = {}
-    for path in sorted(ROOT.glob("crates/*/must-fail/*.edit")):
+    for path in sorted(ROOT.glob("crates/*/must-fail/*")):
         crate = path.parts[-3]
+        where = path.relative_to(ROOT)
+        if path.suffix != ".edit":
+            fault(where, "not an edit")
+            continue
         before, after = {}, {}
         target = old = None
         for line in path.read_text().splitlines():
             word, _, rest = line.partition(":")
             rest = rest.removeprefix(" ")
-            if word == "file":
+            if line.startswith("file: "):
                 target = Path(rest)
                 whole = ROOT / "crates" / crate / target
                 before.setdefault(target, whole.read_text() if whole.exists() else "")
                 after.setdefault(target, before[target])
-            elif word == "old":
+            elif line.startswith("old: ") and target and old is None:
                 old = rest
                 if after[target].count(old) != 1:
-                    fault(path.relative_to(ROOT), f"its text stands {after[target].count(old)} times in {target}: {old}")
-            elif word == "new":
+                    fault(where, f"its text stands {after[target].count(old)} times in {target}: {old}")
+            elif line.startswith("new:") and old is not None:
                 after[target] = after[target].replace(old, rest)  # a later change of the same edit is made in what this one left
+                old = None
+            elif not re.fullmatch(r"(#.*)?", line):
+                fault(where, f"a line of no known kind: {line}")
         if f"`{path.stem}`" not in promises:
-            fault(path.relative_to(ROOT), "not named in docs/PROMISES.md")
-        kinds = kinds_of(before, after)
+            fault(where, "not named in docs/PROMISES.md")
+        try:
+            kinds = kinds_of(before, after)
+        except (ValueError, AttributeError, IndexError):
+            fault(where, "leaves code that the audit cannot read")
+            kinds = set()
         if not kinds & {"code", "contract", "definition"}:
-            fault(path.relative_to(ROOT), "changes neither code nor a statement")
+            fault(where, "changes neither code nor a statement")
         edits.setdefault(crate, {})[path.stem] = kinds
     return edits
+
+
+def check_counts(edits, promises):
+    """The numbers of edits of each kind that docs/PROMISES.md tells."""
+    kinds = [k for of_crate in edits.values() for k in of_crate.values()]
+    both = sum("code" in k and "definition" in k for k in kinds)
+    definitions = sum("definition" in k for k in kinds) - both
+    contracts = sum("contract" in k for k in kinds)
+    true = f"Of all {len(kinds)} edits {sum(map(is_program, kinds))} are such; {definitions} change a definition, {both} both, {contracts} a contract."
+    if true not in promises:
+        fault("docs/PROMISES.md", f"does not say: {true}")
 
 
 def check_wrong_programs(calls, edits, promises):
@@ -326,7 +537,7 @@ def check_wrong_programs(calls, edits, promises):
         if crate in TESTS_ONLY:
             continue
         programs = 0
-        for n in re.findall(r"`([\w/]+)`", rows.get(call.name, "")):
+        for n in set(re.findall(r"`([\w/]+)`", rows.get(call.name, ""))):
             where, _, edit = n.rpartition("/")
             kinds = edits.get(where or crate, {}).get(edit)
             if kinds is None:
@@ -374,10 +585,24 @@ def check_trust():
             fault("docs/TRUST.md", f"{name} has {count} lines, not {lines}")
 
 
-def main():
-    listed = "--list" in sys.argv[1:]
+def read_all():
+    """Every function of the repository."""
+    every = []
+    for crate in crates():
+        for path, module, public in source(crate):
+            try:
+                every += functions(path.read_text(), crate, module, public, path.relative_to(ROOT))
+            except (ValueError, AttributeError, IndexError):
+                fault(path.relative_to(ROOT), "a file that the audit cannot read")
+    return every
+
+
+def audit(listed=False):
+    """One line that tells what was read; what is wrong is in `faults`."""
+    faults.clear()
+    check_forms()
     fields_of = structs()
-    every = [f for crate in crates() for path, module, public in source(crate) for f in functions(path.read_text(), crate, module, public)]
+    every = read_all()
     calls = [f for f in every if f.public]
     for call in calls:
         if listed:
@@ -397,15 +622,22 @@ def main():
     check_divisions()
     promises = (ROOT / "docs" / "PROMISES.md").read_text()
     edits = check_edits(promises)
+    check_counts(edits, promises)
     check_wrong_programs(calls, edits, promises)
     check_papers()
     check_trust()
-    for f in faults:
-        print(f"audit: {f}", file=sys.stderr)
     kinds = [k for of_crate in edits.values() for k in of_crate.values()]
     programs = sum(map(is_program, kinds))
-    print(f"audit: {len(calls)} public calls of {len(every)} functions, {len(kinds)} must-fail edits ({programs} wrong programs), {len(faults)} faults")
+    return f"{len(calls)} public calls of {len(every)} functions, {len(kinds)} must-fail edits ({programs} wrong programs), {len(faults)} faults"
+
+
+def main():
+    counts = audit("--list" in sys.argv[1:])
+    for f in faults:
+        print(f"audit: {f}", file=sys.stderr)
+    print(f"audit: {counts}")
     sys.exit(1 if faults else 0)
 
 
-main()
+if __name__ == "__main__":
+    main()

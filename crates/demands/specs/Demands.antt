@@ -12,7 +12,7 @@ use lib.ListN.{length, take}
 use Rattle.answer.specs.declared.Answer.{Answer}
 use Rattle.answer.specs.Table.{answered, open-so-far, accepted, parameters-not-valid, closed}
 use Rattle.sha256.specs.Sha256.{sha256}
-use Rattle.message.proofs.Bytes.{Bytes}
+use Rattle.message.specs.Bytes.{Bytes}
 use Rattle.params.specs.declared.Params.{Params}
 use Rattle.params.specs.Parameters.{Valid, valid, fileLength}
 use Rattle.fri.specs.Accepted.{Accepted}

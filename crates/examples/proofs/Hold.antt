@@ -62,4 +62,4 @@ examples-hold =
     (Hold.more refl
     (Hold.more refl
     (Hold.more refl
-    Hold.none))))))))))))))))))))))))
+    Hold.empty))))))))))))))))))))))))

@@ -96,5 +96,5 @@ examples =
 
 -- Every row holds.
 pub data Hold : List Example → Type 0 where
-  none : Hold []
+  empty : Hold []
   more : {e : Example} {es : List Example} → e .gives ≡ e .says → Hold es → Hold (e ∷ es)

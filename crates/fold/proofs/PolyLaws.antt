@@ -10,11 +10,11 @@ use lib.Seq.{drop-cons, getD-take, length-take-le}
 use Rattle.field.specs.Modular.{p, addMod, mulMod}
 use Rattle.field.proofs.Laws.{addMod-lt, mulMod-comm}
 use Rattle.field.proofs.Ring.{val, _⊕_, _⊗_, ring}
-use Rattle.fold.specs.Poly.{eval, Below, none, more}
+use Rattle.fold.specs.Poly.{eval, Below, empty, more}
 
 -- Past the last coefficient stands 0, so no length has to be known here.
 pub below-at : {f : List ℕ} → Below f → (i : ℕ) → getD f i 0 < p
-below-at none i = lit< tt
+below-at empty i = lit< tt
 below-at (more h r) zero = h
 below-at (more h r) (suc i) = below-at r i
 

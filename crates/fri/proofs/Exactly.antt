@@ -9,7 +9,7 @@ use Rattle.params.specs.declared.Params.{Params}
 use Rattle.params.specs.Parameters.{Valid, fileLength}
 use Rattle.params.proofs.ParameterLaws.{valid-test}
 use Rattle.message.specs.Message.{Digest}
-use Rattle.message.proofs.Bytes.{Bytes}
+use Rattle.message.specs.Bytes.{Bytes}
 use Rattle.fri.specs.Process.{left, outcome, run, done, ended}
 use Rattle.fri.specs.Judge.{sections, judgement, endAnswer, verdict}
 use Rattle.fri.specs.Accepted.{Accepted}

@@ -11,9 +11,9 @@ use Rattle.answer.specs.Table.{count-differs, parameters-differ, not-below-modu
 use Rattle.params.specs.declared.Params.{Params}
 use Rattle.params.specs.Parameters.{headerSize, header, valuesPerLeaf, height, leafCount, indexBits, finalCount}
 use Rattle.field.specs.Modular.{p as modulus}
-use Rattle.message.specs.Bytes.{le, num, joined, words}
+use Rattle.message.specs.Bytes.{le, num, joined, words, Bytes}
 use Rattle.message.specs.Message.{Digest}
-use Rattle.message.proofs.Bytes.{Bytes, bytes-below, take-bytes, drop-bytes, taken-number}
+use Rattle.message.proofs.Bytes.{bytes-below, take-bytes, drop-bytes, taken-number}
 use Rattle.transcript.specs.Transcript.{start, absorb, drawn}
 use Rattle.fold.specs.Fold.{Expected, anything}
 use Rattle.fri.specs.Process.{Process, need, refused, ended, left, outcome, run, Parser, pure, _>>=_, _>>_, bytes, ensure, many}

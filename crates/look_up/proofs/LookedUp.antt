@@ -8,9 +8,9 @@ use native.Mathlib.Omega.{arith}
 use lib.ListN.{length, getD, take, length-append, length-map, List·getD-map}
 use lib.Seq.{drop-append-add}
 use Rattle.answer.specs.Table.{answered, open-so-far, accepted}
-use Rattle.message.specs.Bytes.{le, part, joined, words}
+use Rattle.message.specs.Bytes.{le, part, joined, words, Bytes}
 use Rattle.message.specs.Message.{Digest}
-use Rattle.message.proofs.Bytes.{Bytes, Sized, sized, le-length, part-at, part-part, joined-at, joined-length}
+use Rattle.message.proofs.Bytes.{Sized, sized, le-length, part-at, part-part, joined-at, joined-length}
 use Rattle.message.proofs.MessageLaws.{words-length}
 use Rattle.params.specs.declared.Params.{Params}
 use Rattle.params.specs.Parameters.{Valid, headerSize, header, finalCount, openingLength, queryLength, queriesOffset, openingOffset, fileLength}

@@ -7,7 +7,7 @@ use native.Mathlib.Omega.{arith}
 use lib.Arith.{mod-mul}
 use lib.ListN.{length, getD, take, drop, length-append}
 use lib.Seq.{take-take, take-nil, drop-drop, drop-append-add, take-at, drop-at, drop-cons}
-use Rattle.message.specs.Bytes.{le, num, part, joined}
+use Rattle.message.specs.Bytes.{le, num, part, joined, Bytes, empty, byte}
 
 pub le-length : (w v : ℕ) → length (le w v) ≡ w
 unfolding le
@@ -23,15 +23,11 @@ num-le (suc w) v = rw (num-le w (v / 256), pow-suc 256 w, mod-mul v (one-le-pow 
 pub num-le-below : (w v : ℕ) → v < 256 ^ w → num (le w v) ≡ v
 num-le-below w v h = num-le w v ∙ mod-eq-of-lt h
 
-pub data Bytes : List ℕ → Type 0 where
-  none : Bytes []
-  more : {b : ℕ} {bs : List ℕ} → b < 256 → Bytes bs → Bytes (b ∷ bs)
-
 -- Reading and writing back: two files never have one meaning.
 pub le-num : {bs : List ℕ} → Bytes bs → le (length bs) (num bs) ≡ bs
 unfolding le num
-le-num none = refl
-le-num (more {b} {bs} h r) = ap₂ (λ u v. u ∷ v) (omega arith) (ap (λ u. le (length bs) u) (omega arith) ∙ le-num r)
+le-num empty = refl
+le-num (byte {b} {bs} h r) = ap₂ (λ u v. u ∷ v) (omega arith) (ap (λ u. le (length bs) u) (omega arith) ∙ le-num r)
 
 -- The same where the length has a name.
 pub taken-number : {w : ℕ} {bs : List ℕ} → length bs ≡ w → Bytes bs → bs ≡ le w (num bs)
@@ -39,19 +35,19 @@ taken-number {w} {bs} e h = sym (le-num h) ∙ ap (λ u. le u (num bs)) e
 
 -- Each of some bytes is below 256, and a part of them is bytes.
 pub bytes-below : {bs : List ℕ} → Bytes bs → (i : ℕ) → i < length bs → getD bs i 0 < 256
-bytes-below none i h = absurd (omega arith)
-bytes-below (more b r) zero h = b
-bytes-below (more b r) (suc i) h = bytes-below r i (omega arith)
+bytes-below empty i h = absurd (omega arith)
+bytes-below (byte b r) zero h = b
+bytes-below (byte b r) (suc i) h = bytes-below r i (omega arith)
 
 pub take-bytes : {xs : List ℕ} → Bytes xs → (w : ℕ) → Bytes (take w xs)
-take-bytes h zero = none
-take-bytes none (suc w) = none
-take-bytes (more h r) (suc w) = more h (take-bytes r w)
+take-bytes h zero = empty
+take-bytes empty (suc w) = empty
+take-bytes (byte h r) (suc w) = byte h (take-bytes r w)
 
 pub drop-bytes : {xs : List ℕ} → Bytes xs → (w : ℕ) → Bytes (drop w xs)
 drop-bytes h zero = h
-drop-bytes none (suc w) = none
-drop-bytes (more h r) (suc w) = drop-bytes r w
+drop-bytes empty (suc w) = empty
+drop-bytes (byte h r) (suc w) = drop-bytes r w
 
 pub part-at : (xs ys zs : List ℕ) (i n : ℕ) → length xs ≡ i → length ys ≡ n → part i n (xs ++ (ys ++ zs)) ≡ ys
 unfolding part

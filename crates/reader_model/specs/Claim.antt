@@ -8,7 +8,7 @@ use mathlib.Core.Path.{_≡_}
 use lib.ListN.{length}
 use Rattle.answer.specs.Table.{answered, open-so-far, accepted, parameters-not-valid, closed}
 use Rattle.message.specs.Message.{Digest}
-use Rattle.message.proofs.Bytes.{Bytes}
+use Rattle.message.specs.Bytes.{Bytes}
 use Rattle.params.specs.declared.Params.{Params}
 use Rattle.params.specs.Parameters.{Valid, fileLength}
 use Rattle.fri.specs.Process.{run}

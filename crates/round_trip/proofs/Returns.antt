@@ -14,7 +14,7 @@ use Rattle.field.specs.Modular.{p as modulus}
 use Rattle.params.specs.declared.Params.{Params}
 use Rattle.params.specs.Parameters.{fileLength}
 use Rattle.params.proofs.ParameterLaws.{valid-test}
-use Rattle.fold.specs.Poly.{Below, none, more}
+use Rattle.fold.specs.Poly.{Below, empty, more}
 use Rattle.built.specs.Built.{builtFile}
 use Rattle.writer_model.proofs.File.{built-length}
 use Rattle.writer.specs.Writer.{allBelow, tested}
@@ -26,12 +26,12 @@ use Rattle.round_trip.specs.RoundTrip.{Fits, RoundTrip}
 -- The test of the coefficients.
 below-test : {f : List ℕ} → Below f → allBelow f ≡ true
 unfolding allBelow
-below-test none = refl
+below-test empty = refl
 below-test (more h r) = rw (lt-ltb _ _ h) (below-test r)
 
 test-below : (f : List ℕ) → allBelow f ≡ true → Below f
 unfolding allBelow
-test-below [] e = none
+test-below [] e = empty
 test-below (c ∷ f) e = go (test-below f) (ltb c modulus) refl e
   where
     go : (allBelow f ≡ true → Below f) → (t : Bool) → ltb c modulus ≡ t → (t && allBelow f) ≡ true → Below (c ∷ f)
