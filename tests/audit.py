@@ -32,7 +32,7 @@ TERMS = set("+ - * / % ^ ∷ [] ++".split())  # the signs that a term may have; 
 EQUALITY = ("mathlib.Core.Path", "_≡_")
 ASSEMBLES = {"replied", "outcome", "buffer"}  # records made of their arguments: an equation of one pins every argument
 OUTSIDE = set()  # public calls whose result no contract can pin: none
-BY_POWERS_OF_TWO = ["field", "fold"]  # their code, and what it calls, divides and takes remainders by nothing else (request 2026-03)
+BY_POWERS_OF_TWO = ["field", "felt", "fold"]  # their code, and what it calls, divides and takes remainders by nothing else (request 2026-03)
 WRAPPING = re.compile(r"wrapping_(add|sub)_u(8|16|32|64)")  # what that code may call of std::num
 TESTS_ONLY = {"test_exports"}  # passes calls on to the comparisons; no interface for users
 

@@ -2,11 +2,9 @@
 pub mod Remainder
 pub mod Reduction
 pub mod Laws
-pub mod CheckedLaws
 pub mod Squares
 pub mod Order
 pub mod Pigeonhole
 pub mod Inverse
-pub mod Table
 pub mod Subgroup
 pub mod Ring

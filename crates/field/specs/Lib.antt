@@ -1,3 +1,2 @@
--- What the contracts of `field` cite: the arithmetic modulo p, and the answers of the checked calls.
+-- What the contracts of `field` cite: the arithmetic modulo p.
 pub mod Modular
-pub mod Checked

@@ -1,23 +1,10 @@
-// The prime field p = 3·2^30 + 1 (document 01, "The field"). The functions on u32 are total and reduce any argument; the methods of `Felt`
-// refuse an argument that is not below p.
+// The prime field p = 3·2^30 + 1 (document 01, "The field"). The calls are total and reduce any argument; `felt` has those that refuse one.
 ghost use mathlib.Core.Path.{_≡_};
 ghost use Prim.Native.Nat.{_+_, _*_, _/_, _%_, _<_};
-ghost use Rattle.field.specs.Modular.{p, addMod, subMod, mulMod, negMod, powMod, invMod, generator, subgroupGenerator};
-ghost use Rattle.field.specs.Checked.{refusal, success, checked, sumAnswer, differenceAnswer, productAnswer, negationAnswer, powerAnswer, inverseAnswer};
-use answer::Answer;
+ghost use Rattle.field.specs.Modular.{p, addMod, subMod, mulMod, negMod, powMod, invMod};
 
-// A field number. It is valid where its value is below the modulus.
-#[repr(C)]
-pub struct Felt {
-    pub value: u32,
-}
-
-// A checked call's answer, and its value beside it: 0 beside a refusal.
-#[repr(C)]
-pub struct FieldAnswer {
-    pub answer: Answer,
-    pub value: Felt,
-}
+// p.
+pub const MODULUS: u32 = 3221225473;
 
 // 2^32, and 2^30: p is three of these units and 1.
 const WORD: u64 = 4294967296;
@@ -28,11 +15,7 @@ const UNIT: u32 = 1073741824;
 fn correct(a: u32) -> u32
     ensures { λ r. ⌜ r ≡ a % p ⌝ }
 {
-    if a < Felt::MODULUS {
-        a
-    } else {
-        a - Felt::MODULUS
-    }
+    if a < MODULUS { a } else { a - MODULUS }
 }
 
 // A third of 2^33 without its quarter, `times` over. A third is a quarter, a sixteenth, a sixty-fourth and so on: from the sixteenth on, fifteen parts, 2^29
@@ -78,7 +61,7 @@ pub fn add(a: u32, b: u32) -> u32
 {
     let x = correct(a);
     let y = correct(b);
-    let room = Felt::MODULUS - y;
+    let room = MODULUS - y;
     if x < room { x + y } else { x - room }
 }
 
@@ -87,11 +70,7 @@ pub fn sub(a: u32, b: u32) -> u32
 {
     let x = correct(a);
     let y = correct(b);
-    if y <= x {
-        x - y
-    } else {
-        x + (Felt::MODULUS - y)
-    }
+    if y <= x { x - y } else { x + (MODULUS - y) }
 }
 
 pub fn mul(a: u32, b: u32) -> u32
@@ -160,174 +139,5 @@ pub fn pow(a: u32, e: u32) -> u32
 pub fn inv(a: u32) -> u32
     ensures { λ r. ⌜ r ≡ invMod a ⌝ }
 {
-    pow(a, Felt::MODULUS - 2)
-}
-
-// Entry t generates the subgroup of order 2^t: it is 5^(3·2^(30−t)), and the square of the entry after it.
-const SUBGROUP_GENERATORS: [u32; 31] = [
-    1,
-    3221225472,
-    1013946479,
-    1031213943,
-    2526611335,
-    66931328,
-    651814490,
-    1292405718,
-    1958494276,
-    764652596,
-    1855261384,
-    1168849724,
-    211283056,
-    1734477367,
-    1445148504,
-    1405588668,
-    2519378301,
-    1800384970,
-    1358427440,
-    511777184,
-    3009749949,
-    448192265,
-    3182672916,
-    140749519,
-    538601489,
-    1838654099,
-    247425463,
-    229807484,
-    244140625,
-    15625,
-    125,
-];
-
-// The generator of the subgroup of order 2^t, for t up to 30; above that, of the largest one.
-pub fn subgroup_generator(t: usize) -> u32
-    ensures { λ r. ⌜ r ≡ subgroupGenerator t ⌝ }
-{
-    if t < 30 {
-        SUBGROUP_GENERATORS[t]
-    } else {
-        SUBGROUP_GENERATORS[30]
-    }
-}
-
-fn refused(number: u8) -> FieldAnswer
-    ensures { λ r. ⌜ r ≡ refusal number ⌝ }
-{
-    FieldAnswer {
-        answer: Answer { number, place: 0 },
-        value: Felt::ZERO,
-    }
-}
-
-fn found(value: u32) -> FieldAnswer
-    ensures { λ r. ⌜ r ≡ success value ⌝ }
-{
-    FieldAnswer {
-        answer: Answer {
-            number: answer::OPEN,
-            place: 0,
-        },
-        value: Felt { value },
-    }
-}
-
-// The value beside the answer of a call with one argument: 22 where that is not below p.
-fn judged(a: u32, value: u32) -> FieldAnswer
-    ensures { λ r. ⌜ r ≡ checked a (success value) ⌝ }
-{
-    if a < Felt::MODULUS {
-        found(value)
-    } else {
-        refused(answer::NOT_BELOW_MODULUS)
-    }
-}
-
-// The same for two arguments.
-fn judged_both(a: u32, b: u32, value: u32) -> FieldAnswer
-    ensures { λ r. ⌜ r ≡ checked a (checked b (success value)) ⌝ }
-{
-    if a < Felt::MODULUS {
-        judged(b, value)
-    } else {
-        refused(answer::NOT_BELOW_MODULUS)
-    }
-}
-
-impl Felt {
-    pub const MODULUS: u32 = 3221225473;
-
-    pub const ZERO: Felt = Felt { value: 0 };
-
-    pub const ONE: Felt = Felt { value: 1 };
-
-    pub const GENERATOR: Felt = Felt { value: 5 };
-
-    // The constants as functions, whose contracts state their values.
-    pub fn zero() -> Felt
-        ensures { λ r. ⌜ r .value ≡ 0 ⌝ }
-    {
-        Felt::ZERO
-    }
-
-    pub fn one() -> Felt
-        ensures { λ r. ⌜ r .value ≡ 1 ⌝ }
-    {
-        Felt::ONE
-    }
-
-    pub fn modulus() -> u32
-        ensures { λ r. ⌜ r ≡ p ⌝ }
-    {
-        Felt::MODULUS
-    }
-
-    pub fn generator() -> Felt
-        ensures { λ r. ⌜ r .value ≡ generator ⌝ }
-    {
-        Felt::GENERATOR
-    }
-
-    pub fn sum(self, other: Felt) -> FieldAnswer
-        ensures { λ r. ⌜ r ≡ sumAnswer (self .value) (other .value) ⌝ }
-    {
-        let sum = add(self.value, other.value);
-        judged_both(self.value, other.value, sum)
-    }
-
-    pub fn difference(self, other: Felt) -> FieldAnswer
-        ensures { λ r. ⌜ r ≡ differenceAnswer (self .value) (other .value) ⌝ }
-    {
-        let difference = sub(self.value, other.value);
-        judged_both(self.value, other.value, difference)
-    }
-
-    pub fn product(self, other: Felt) -> FieldAnswer
-        ensures { λ r. ⌜ r ≡ productAnswer (self .value) (other .value) ⌝ }
-    {
-        let product = mul(self.value, other.value);
-        judged_both(self.value, other.value, product)
-    }
-
-    pub fn negation(self) -> FieldAnswer
-        ensures { λ r. ⌜ r ≡ negationAnswer (self .value) ⌝ }
-    {
-        let opposite = neg(self.value);
-        judged(self.value, opposite)
-    }
-
-    pub fn power(self, e: u32) -> FieldAnswer
-        ensures { λ r. ⌜ r ≡ powerAnswer (self .value) e ⌝ }
-    {
-        let raised = pow(self.value, e);
-        judged(self.value, raised)
-    }
-
-    pub fn inverse(self) -> FieldAnswer
-        ensures { λ r. ⌜ r ≡ inverseAnswer (self .value) ⌝ }
-    {
-        if self.value == 0 {
-            return refused(answer::INVERSE_OF_ZERO);
-        }
-        let inverse = inv(self.value);
-        judged(self.value, inverse)
-    }
+    pow(a, MODULUS - 2)
 }

@@ -18,7 +18,7 @@ fn evaluate(room: &mut [u32], count: usize, size: usize, n: u8, layer: u8)
     requires { ⌜ ((layer ≤ n) × (n ≤ 30)) × ((count ≤ size) × ((size ≡ spec.layerSize n layer) × (length (now room) ≡ 2 * size))) ⌝ }
     ensures { λ _. ⌜ now (room .exit) ≡ spec.evaluated n layer count (now (room .entry)) ⌝ }
 {
-    let root = field::subgroup_generator((n - layer) as usize);
+    let root = felt::subgroup_generator((n - layer) as usize);
     let mut x = domain::point(n, layer, 0);
     let mut i = 0;
     while i < size {

@@ -13,7 +13,7 @@ use crate::state::is_sane;
 use crate::state::is_sibling;
 use crate::state::moved;
 use crate::state::refuse;
-use field::Felt;
+use felt::Felt;
 use params::Params;
 use reader_model::Core;
 use reader_model::Stage;

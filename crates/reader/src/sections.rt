@@ -11,7 +11,7 @@ ghost use Rattle.reader_model.specs.Items.{afterCount, afterParameters, afterRo
 ghost use Rattle.reader.specs.Private.{Sane};
 use crate::state::moved;
 use crate::state::refuse;
-use field::Felt;
+use felt::Felt;
 use params::Params;
 use reader_model::Core;
 use reader_model::Stage;

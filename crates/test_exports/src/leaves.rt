@@ -3,10 +3,10 @@ ghost use mathlib.Core.Path.{_≡_};
 ghost use Prim.Native.Nat.{_%_};
 ghost use Rattle.sha256.specs.Hash.{hashed};
 ghost use Rattle.field.specs.Modular.{p, addMod, subMod, mulMod, negMod, powMod, invMod, generator, subgroupGenerator};
-ghost use Rattle.field.specs.Checked.{sumAnswer, differenceAnswer, productAnswer, negationAnswer, powerAnswer, inverseAnswer};
+ghost use Rattle.felt.specs.Checked.{sumAnswer, differenceAnswer, productAnswer, negationAnswer, powerAnswer, inverseAnswer};
 use answer::Answer;
-use field::Felt;
-use field::FieldAnswer;
+use felt::Felt;
+use felt::FieldAnswer;
 
 // The digest goes to `out`.
 #[no_mangle]
@@ -159,5 +159,5 @@ pub extern "C" fn test_generator() -> Felt
 pub extern "C" fn test_subgroup_generator(t: usize) -> u32
     ensures { λ r. ⌜ r ≡ subgroupGenerator t ⌝ }
 {
-    field::subgroup_generator(t)
+    felt::subgroup_generator(t)
 }

@@ -1,7 +1,7 @@
 // The writer's tests, in their order.
 ghost use mathlib.Core.Path.{_≡_};
 ghost use Rattle.writer.specs.Writer as spec;
-use field::Felt;
+use felt::Felt;
 use params::Params;
 
 // Whether every coefficient is below the modulus.

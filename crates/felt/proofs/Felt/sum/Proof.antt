@@ -1,9 +1,9 @@
 -- `Felt::sum` meets its contract: the value of `add`, once the arguments are judged.
 -- Assumes nothing.
 use borrow.Author.Needs.{needs}
-use Rattle.field.specs.Checked.{sumAnswer}
-use Rattle.field.proofs.Felt.sum.Statement.{statement}
-use Rattle.field.proofs.Felt.sum.Tie as tie
+use Rattle.felt.specs.Checked.{sumAnswer}
+use Rattle.felt.proofs.Felt.sum.Statement.{statement}
+use Rattle.felt.proofs.Felt.sum.Tie as tie
 
 returns : tie.Need-returns
 unfolding sumAnswer

@@ -1,9 +1,9 @@
 -- `Felt::product` meets its contract: the value of `mul`, once the arguments are judged.
 -- Assumes nothing.
 use borrow.Author.Needs.{needs}
-use Rattle.field.specs.Checked.{productAnswer}
-use Rattle.field.proofs.Felt.product.Statement.{statement}
-use Rattle.field.proofs.Felt.product.Tie as tie
+use Rattle.felt.specs.Checked.{productAnswer}
+use Rattle.felt.proofs.Felt.product.Statement.{statement}
+use Rattle.felt.proofs.Felt.product.Tie as tie
 
 returns : tie.Need-returns
 unfolding productAnswer

@@ -2,9 +2,9 @@
 -- Assumes nothing.
 use mathlib.Core.Path.{sym, _∙_}
 use borrow.Author.Needs.{needs}
-use Rattle.field.proofs.CheckedLaws.{inverse-zero, inverse-other}
-use Rattle.field.proofs.Felt.inverse.Statement.{statement}
-use Rattle.field.proofs.Felt.inverse.Tie as tie
+use Rattle.felt.proofs.CheckedLaws.{inverse-zero, inverse-other}
+use Rattle.felt.proofs.Felt.inverse.Statement.{statement}
+use Rattle.felt.proofs.Felt.inverse.Tie as tie
 
 returns : tie.Need-returns
 returns c = c .refused .ensures ∙ sym (inverse-zero _ (c .before .if1 .taken))

@@ -2,9 +2,9 @@
 -- Assumes nothing.
 use mathlib.Core.Path.{sym, _∙_}
 use borrow.Author.Needs.{needs}
-use Rattle.field.proofs.CheckedLaws.{refused, passed}
-use Rattle.field.proofs.judged.Statement.{statement}
-use Rattle.field.proofs.judged.Tie as tie
+use Rattle.felt.proofs.CheckedLaws.{refused, passed}
+use Rattle.felt.proofs.judged.Statement.{statement}
+use Rattle.felt.proofs.judged.Tie as tie
 
 returns : tie.Need-returns
 returns c = c .found .ensures ∙ sym (passed _ _ (c .before .if1 .taken))

@@ -4,9 +4,9 @@ use mathlib.Core.Path.{_≡_, refl, ap, _∙_}
 use Prim.Native.Nat.{ℕ, _<_, _≤_}
 use borrow.Author.Tests.{le-ltb, lt-ltb, ne-eqb}
 use Rattle.answer.specs.Table.{not-below-modulus, inverse-of-zero}
-use Rattle.field.specs.declared.FieldAnswer.{FieldAnswer}
+use Rattle.felt.specs.declared.FieldAnswer.{FieldAnswer}
 use Rattle.field.specs.Modular.{p, invMod}
-use Rattle.field.specs.Checked.{checked, refusal, success, inverseAnswer}
+use Rattle.felt.specs.Checked.{checked, refusal, success, inverseAnswer}
 
 pub refused : (a : ℕ) (answer : FieldAnswer) → p ≤ a → checked a answer ≡ refusal not-below-modulus
 unfolding checked

@@ -4,8 +4,8 @@ use mathlib.Core.Bool.{cond}
 use Prim.Native.Nat.{ℕ}
 use lib.Dec.{ltb, eqb}
 use Rattle.answer.specs.Table.{answered, open-so-far, not-below-modulus, inverse-of-zero}
-use Rattle.field.specs.declared.FieldAnswer.{FieldAnswer}
+use Rattle.felt.specs.declared.FieldAnswer.{FieldAnswer}
 use Rattle.field.specs.Modular.{p, addMod, subMod, mulMod, negMod, powMod, invMod}
 
 abbrev pub refusal : ℕ → FieldAnswer
 refusal number = record { answer = answered number 0; value = record { value = 0 } }

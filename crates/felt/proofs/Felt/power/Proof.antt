@@ -1,9 +1,9 @@
 -- `Felt::power` meets its contract: the value of `pow`, once the arguments are judged.
 -- Assumes nothing.
 use borrow.Author.Needs.{needs}
-use Rattle.field.specs.Checked.{powerAnswer}
-use Rattle.field.proofs.Felt.power.Statement.{statement}
-use Rattle.field.proofs.Felt.power.Tie as tie
+use Rattle.felt.specs.Checked.{powerAnswer}
+use Rattle.felt.proofs.Felt.power.Statement.{statement}
+use Rattle.felt.proofs.Felt.power.Tie as tie
 
 returns : tie.Need-returns
 unfolding powerAnswer

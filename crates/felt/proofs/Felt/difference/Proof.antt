@@ -1,9 +1,9 @@
 -- `Felt::difference` meets its contract: the value of `sub`, once the arguments are judged.
 -- Assumes nothing.
 use borrow.Author.Needs.{needs}
-use Rattle.field.specs.Checked.{differenceAnswer}
-use Rattle.field.proofs.Felt.difference.Statement.{statement}
-use Rattle.field.proofs.Felt.difference.Tie as tie
+use Rattle.felt.specs.Checked.{differenceAnswer}
+use Rattle.felt.proofs.Felt.difference.Statement.{statement}
+use Rattle.felt.proofs.Felt.difference.Tie as tie
 
 returns : tie.Need-returns
 unfolding differenceAnswer

@@ -1,9 +1,9 @@
 -- `Felt::negation` meets its contract: the value of `neg`, once the arguments are judged.
 -- Assumes nothing.
 use borrow.Author.Needs.{needs}
-use Rattle.field.specs.Checked.{negationAnswer}
-use Rattle.field.proofs.Felt.negation.Statement.{statement}
-use Rattle.field.proofs.Felt.negation.Tie as tie
+use Rattle.felt.specs.Checked.{negationAnswer}
+use Rattle.felt.proofs.Felt.negation.Statement.{statement}
+use Rattle.felt.proofs.Felt.negation.Tie as tie
 
 returns : tie.Need-returns
 unfolding negationAnswer

@@ -1,0 +1,3 @@
+-- What the checked calls answer, and a table's rule.
+pub mod CheckedLaws
+pub mod Table
