@@ -17,7 +17,7 @@ use Rattle.fold.proofs.PolyLaws.{below-at}
 use Rattle.fold.proofs.FoldCheck.{eval-lt}
 use Rattle.fri.specs.Encoding.{IsDigest, IsOpening, HasLayout, openingAt, noOpening}
 use Rattle.built.specs.Built.{leafValues, leafOf, leaves, commit, builtRoot, builtLeaf, layerAt, openingOf, build}
-use Rattle.fri.proofs.Tabulate.{tabulate-length, tabulate-at}
+use Rattle.message.proofs.Tabulate.{tabulate-length, tabulate-at}
 use Rattle.built.proofs.Layers.{leaves-length, layer-length, layer-below}
 
 -- Query i opens its leaf in layer j.

@@ -18,11 +18,12 @@ use Rattle.transcript.specs.Transcript.{start, challenge, finish, drawn, absorb
 use Rattle.fold.specs.Poly.{eval, fold}
 use Rattle.fold.specs.Fold.{FoldsFrom}
 use Rattle.fold.proofs.FoldCheck.{fold-check}
-use Rattle.fri.specs.Encoding.{Proof, openingAt, rootAt, tabulate}
+use Rattle.fri.specs.Encoding.{Proof, openingAt, rootAt}
+use Rattle.message.specs.Lists.{tabulate}
 use Rattle.fri.specs.Judge.{valueAt}
 use Rattle.fri.specs.Accepted.{challengeAt, drawnLeaf, leafAt, openedLeaf, pointAt, FoldsTo, nextValue, Holds}
 use Rattle.built.specs.Built.{Layer, leafValues, leafOf, leaves, commit, nextLayer, layerAt, builtRoot, builtLeaf, openingOf, build}
-use Rattle.fri.proofs.Tabulate.{tabulate-length, tabulate-at}
+use Rattle.message.proofs.Tabulate.{tabulate-length, tabulate-at}
 use Rattle.built.proofs.Layers.{leaves-length, layer-state}
 use Rattle.built.proofs.BuiltLayout.{built-opening}
 

@@ -15,8 +15,8 @@ use Rattle.domain.specs.Domain.{point}
 use Rattle.fold.specs.Poly.{Below, eval}
 use Rattle.fold.proofs.FoldCheck.{fold-length, fold-below}
 use Rattle.built.specs.Built.{padded, leafValues, leaves, nextLayer, layerAt, builtRoot}
-use Rattle.fri.specs.Encoding.{tabulate}
-use Rattle.fri.proofs.Tabulate.{tabulate-length, tabulate-at}
+use Rattle.message.specs.Lists.{tabulate}
+use Rattle.message.proofs.Tabulate.{tabulate-length, tabulate-at}
 
 padded-length : (size : ℕ) (f : List ℕ) → length f ≤ size → length (padded size f) ≡ size
 unfolding padded

@@ -10,7 +10,8 @@ use Rattle.domain.specs.Domain.{point}
 use Rattle.merkle.specs.Merkle.{rootOf, path, leaf}
 use Rattle.transcript.specs.Transcript.{start, absorb, challenge, finish, drawn}
 use Rattle.fold.specs.Poly.{eval, fold}
-use Rattle.fri.specs.Encoding.{Opening, Proof, tabulate, encode}
+use Rattle.fri.specs.Encoding.{Opening, Proof, encode}
+use Rattle.message.specs.Lists.{tabulate}
 
 -- The coefficients, with the missing ones, which are 0.
 unfoldable pub padded : ℕ → List ℕ → List ℕ

@@ -1,5 +1,4 @@
 -- Laws of the judgement: its width, what it reads, and that it accepts exactly the files that hold.
-pub mod Tabulate
 pub mod Same
 pub mod Process
 pub mod Width

@@ -1,6 +1,6 @@
 -- A proof and its bytes: the published layout (document 01, "The proof's sections").
-use Prim.Native.Nat.{ℕ, zero, suc, _<_}
-use mathlib.Core.List.{List, [], _∷_, _++_, map}
+use Prim.Native.Nat.{ℕ, _<_}
+use mathlib.Core.List.{List, [], _++_, map}
 use mathlib.Core.Path.{_≡_}
 use lib.ListN.{length, getD}
 use Rattle.field.specs.Modular.{p as modulus}
@@ -19,11 +19,6 @@ pub record Proof : Type 0 where
   pub roots : List Digest
   pub final : List ℕ
   pub queries : List (List Opening)
-
--- The values of g at 0, …, n − 1.
-unfoldable pub tabulate : {A : Type 0} → ℕ → (ℕ → A) → List A
-tabulate zero g = []
-tabulate (suc n) g = g 0 ∷ tabulate n (λ i. g (suc i))
 
 unfoldable pub openingBytes : Opening → List ℕ
 openingBytes o = words (o .values) ++ joined (o .siblings)

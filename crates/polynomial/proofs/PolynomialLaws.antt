@@ -16,8 +16,8 @@ use Rattle.field.proofs.Laws.{mulMod-assoc, powMod-add, powMod-mul}
 use Rattle.field.specs.Modular.{addMod, mulMod, powMod, generator, subgroupGenerator}
 use Rattle.fold.specs.Poly.{eval, fold}
 use Rattle.fold.proofs.FoldCheck.{fold-length}
-use Rattle.fri.proofs.Tabulate.{tabulate-length, tabulate-snoc}
-use Rattle.fri.specs.Encoding.{tabulate}
+use Rattle.message.proofs.Tabulate.{tabulate-length, tabulate-snoc}
+use Rattle.message.specs.Lists.{tabulate}
 use Rattle.polynomial.specs.Polynomial.{layerSize, values, isRoom, evaluated, foldedInPlace}
 
 -- A layer has at most 2^30 points, and its size is a shift.

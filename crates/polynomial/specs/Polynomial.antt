@@ -6,7 +6,7 @@ use lib.Dec.{eqb, leb}
 use lib.ListN.{length, take, drop}
 use Rattle.domain.specs.Domain.{point}
 use Rattle.fold.specs.Poly.{eval, fold}
-use Rattle.fri.specs.Encoding.{tabulate}
+use Rattle.message.specs.Lists.{tabulate}
 
 -- The number of points of layer j in the domain of 2^n points.
 unfoldable pub layerSize : ℕ → ℕ → ℕ

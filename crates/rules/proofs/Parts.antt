@@ -13,9 +13,9 @@ use Rattle.field.specs.Modular.{p as modulus}
 use Rattle.message.specs.Bytes.{num, part}
 use Rattle.message.specs.Message.{Digest}
 use Rattle.fri.specs.Process.{Process, bytes, many, pure, _>>=_, _>>_}
-use Rattle.fri.specs.Encoding.{tabulate}
+use Rattle.message.specs.Lists.{tabulate}
 use Rattle.fri.specs.Judge.{sameBytes, count, number}
-use Rattle.fri.proofs.Tabulate.{tabulate-at}
+use Rattle.message.proofs.Tabulate.{tabulate-at}
 use Rattle.fri.proofs.Same.{same-self}
 use Rattle.rules.proofs.Faults.{None, One, Some}
 use Rattle.rules.proofs.Steps.{Through, restated, only, tested, bytes-taken, many-taken}

@@ -16,7 +16,7 @@ use Rattle.fri.specs.Process.{Process, run, left, outcome, bytes, many, pure, d
 use Rattle.fri.specs.Encoding.{Proof}
 use Rattle.fri.specs.Judge.{sameBytes, number, queries, sections, judgement}
 use Rattle.fri.specs.Accepted.{drawnLeaf}
-use Rattle.fri.proofs.Tabulate.{tabulate-at}
+use Rattle.message.proofs.Tabulate.{tabulate-at}
 use Rattle.fri.proofs.Same.{same-equal}
 use Rattle.rules.specs.Rules.{proofIn}
 use Rattle.rules.proofs.Faults.{Faults, One, Either, Some}

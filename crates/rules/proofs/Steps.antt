@@ -10,7 +10,7 @@ use lib.Seq.{drop-drop}
 use borrow.Author.Tests.{leb-true, leb-false}
 use Rattle.message.specs.Bytes.{part}
 use Rattle.fri.specs.Process.{Process, Result, Parser, left, outcome, run, ensure, many, pure, _>>=_, need, short, refused}
-use Rattle.fri.specs.Encoding.{tabulate}
+use Rattle.message.specs.Lists.{tabulate}
 use Rattle.fri.proofs.Process.{left-enough, left-few}
 use Rattle.rules.proofs.Faults.{Faults, None, One, Either, Some, cases, Before, First, one, some-split, some-join, left as in-first, right as in-second, same, earlier}
 

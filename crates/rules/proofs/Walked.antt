@@ -25,7 +25,7 @@ use Rattle.fri.specs.Process.{Process, _>>=_, _>>_}
 use Rattle.fri.specs.Encoding.{Opening, noOpening, Proof, rootAt, openingAt}
 use Rattle.fri.specs.Judge.{sameBytes, valueAt, walk}
 use Rattle.fri.specs.Accepted.{challengeAt, drawnLeaf, leafAt, openedLeaf, pointAt, FoldsTo}
-use Rattle.fri.proofs.Tabulate.{tabulate-length, tabulate-at}
+use Rattle.message.proofs.Tabulate.{tabulate-length, tabulate-at}
 use Rattle.fri.proofs.Same.{same-equal}
 use Rattle.rules.specs.Rules.{openingEnd, openingIn, proofIn}
 use Rattle.rules.proofs.Faults.{Faults, One, Either, Some, Before, left, right, earlier, number-first, path-first}

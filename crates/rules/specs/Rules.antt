@@ -13,7 +13,8 @@ use Rattle.message.specs.Message.{Digest}
 use Rattle.domain.specs.Domain.{point}
 use Rattle.merkle.specs.Merkle.{climb}
 use Rattle.fold.specs.Poly.{eval}
-use Rattle.fri.specs.Encoding.{Opening, Proof, tabulate, rootAt, openingAt}
+use Rattle.fri.specs.Encoding.{Opening, Proof, rootAt, openingAt}
+use Rattle.message.specs.Lists.{tabulate}
 use Rattle.fri.specs.Accepted.{leafAt, openedLeaf, FoldsTo, nextValue}
 
 -- Where the opening of query i in layer j ends.

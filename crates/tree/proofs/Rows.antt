@@ -17,7 +17,7 @@ use Rattle.sha256.specs.Sha256.{sha256}
 use Rattle.sha256.proofs.HashLaws.{length-sha256}
 use Rattle.merkle.specs.Merkle.{leaf, above, digests, rootOf, sibling}
 use Rattle.merkle.proofs.Opens.{above-length, sibling-below}
-use Rattle.fri.proofs.Tabulate.{tabulate-length, tabulate-sized}
+use Rattle.message.proofs.Tabulate.{tabulate-length, tabulate-sized}
 use Rattle.buffer.specs.Buffer.{put}
 use Rattle.buffer.proofs.BufferLaws.{put-fits, put-stays}
 use Rattle.buffer.proofs.Placed.{part-length, part-drop, take-before, sets-behind}

@@ -15,8 +15,8 @@ use Rattle.sha256.specs.Sha256.{sha256}
 use Rattle.sha256.proofs.HashLaws.{length-sha256}
 use Rattle.merkle.specs.Merkle.{leaf, node, above, digests, sibling}
 use Rattle.merkle.proofs.MerkleLaws.{tagged-node}
-use Rattle.fri.specs.Encoding.{tabulate}
-use Rattle.fri.proofs.Tabulate.{tabulate-length, tabulate-snoc, tabulate-sized}
+use Rattle.message.specs.Lists.{tabulate}
+use Rattle.message.proofs.Tabulate.{tabulate-length, tabulate-snoc, tabulate-sized}
 use Rattle.buffer.specs.Buffer.{put}
 use Rattle.buffer.proofs.BufferLaws.{put-fits}
 use Rattle.buffer.proofs.Placed.{part-length, part-drop, part-before, drop-sets, sets-behind}

@@ -7,7 +7,7 @@ use lib.ListN.{length, drop, getD, replicate}
 use Rattle.message.specs.Bytes.{joined, part}
 use Rattle.message.specs.Message.{Digest}
 use Rattle.merkle.specs.Merkle.{leaf, above, rootOf, sibling}
-use Rattle.fri.specs.Encoding.{tabulate}
+use Rattle.message.specs.Lists.{tabulate}
 use Rattle.buffer.specs.Buffer.{put}
 
 -- The bytes of a tree of height d: 2·2^d − 1 digests.

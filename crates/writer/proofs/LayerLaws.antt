@@ -19,7 +19,7 @@ use Rattle.merkle.specs.Merkle.{leaf, rootOf}
 use Rattle.fold.specs.Poly.{fold}
 use Rattle.fold.proofs.FoldCheck.{fold-length}
 use Rattle.polynomial.specs.Polynomial.{layerSize, values, isRoom, evaluated, foldedInPlace}
-use Rattle.fri.proofs.Tabulate.{tabulate-length, tabulate-sized}
+use Rattle.message.proofs.Tabulate.{tabulate-length, tabulate-sized}
 use Rattle.tree.specs.Tree.{treeSize, leafRow, rows, isGround, grown, grownRoot}
 use Rattle.tree.proofs.Size.{rows-length}
 use Rattle.writer_model.specs.Work.{polyIn, valuesIn, withValues, withFold, treeStart, treeIn, rootIn}

@@ -21,8 +21,8 @@ use Rattle.message.proofs.Bytes.{le-length, joined-snoc}
 use Rattle.message.proofs.MessageLaws.{sets-append, words-length}
 use Rattle.domain.specs.Domain.{half}
 use Rattle.transcript.specs.Transcript.{drawn}
-use Rattle.fri.specs.Encoding.{tabulate}
-use Rattle.fri.proofs.Tabulate.{tabulate-length, tabulate-snoc}
+use Rattle.message.specs.Lists.{tabulate}
+use Rattle.message.proofs.Tabulate.{tabulate-length, tabulate-snoc}
 use Rattle.buffer.specs.Buffer.{put}
 use Rattle.buffer.proofs.BufferLaws.{put-fits}
 use Rattle.buffer.proofs.Placed.{part-length}

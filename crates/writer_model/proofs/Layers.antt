@@ -20,8 +20,8 @@ use Rattle.merkle.proofs.Opens.{root-all}
 use Rattle.transcript.specs.Transcript.{absorb, challenge}
 use Rattle.fold.specs.Poly.{fold}
 use Rattle.fold.proofs.FoldCheck.{fold-length}
-use Rattle.fri.specs.Encoding.{tabulate}
-use Rattle.fri.proofs.Tabulate.{tabulate-length, tabulate-at, tabulate-same, tabulate-sized}
+use Rattle.message.specs.Lists.{tabulate}
+use Rattle.message.proofs.Tabulate.{tabulate-length, tabulate-at, tabulate-same, tabulate-sized}
 use Rattle.buffer.proofs.Placed.{part-after, part-there, take-before, take-there}
 use Rattle.polynomial.specs.Polynomial.{layerSize, values}
 use Rattle.tree.specs.Tree.{leafRow, rows, treeSize}

@@ -13,8 +13,9 @@ use Rattle.params.proofs.LeafLaws.{leaf-lt}
 use Rattle.domain.specs.Domain.{point}
 use Rattle.transcript.specs.Transcript.{finish, drawn}
 use Rattle.fold.specs.Poly.{eval}
-use Rattle.fri.specs.Encoding.{tabulate, openingBytes, queryBytes}
-use Rattle.fri.proofs.Tabulate.{tabulate-at, tabulate-same}
+use Rattle.fri.specs.Encoding.{openingBytes, queryBytes}
+use Rattle.message.specs.Lists.{tabulate}
+use Rattle.message.proofs.Tabulate.{tabulate-at, tabulate-same}
 use Rattle.buffer.proofs.Placed.{part-number}
 use Rattle.polynomial.specs.Polynomial.{layerSize, values}
 use Rattle.tree.specs.Tree.{siblingsIn, treeSize}

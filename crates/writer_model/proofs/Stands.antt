@@ -6,7 +6,7 @@ use Rattle.params.specs.declared.Params.{Params}
 use Rattle.params.specs.Parameters.{height, rootOffset}
 use Rattle.message.specs.Bytes.{joined, part}
 use Rattle.message.specs.Message.{Digest}
-use Rattle.fri.specs.Encoding.{tabulate}
+use Rattle.message.specs.Lists.{tabulate}
 use Rattle.polynomial.specs.Polynomial.{values}
 use Rattle.tree.specs.Tree.{rows, treeSize}
 use Rattle.built.specs.Built.{leaves, layerAt, builtRoot}

@@ -11,7 +11,7 @@ use Rattle.message.specs.Message.{Digest}
 use Rattle.merkle.specs.Merkle.{rootOf}
 use Rattle.transcript.specs.Transcript.{start, absorb, challenge, finish, drawn}
 use Rattle.fold.specs.Poly.{fold}
-use Rattle.fri.specs.Encoding.{tabulate}
+use Rattle.message.specs.Lists.{tabulate}
 use Rattle.polynomial.specs.Polynomial.{layerSize, values}
 use Rattle.tree.specs.Tree.{leafRow, rows, siblingsIn, treeSize}
 

@@ -7,7 +7,7 @@ use lib.ListN.{length, drop}
 use lib.Seq.{sets}
 use Rattle.message.specs.Bytes.{joined}
 use Rattle.sha256.specs.Sha256.{sha256}
-use Rattle.fri.specs.Encoding.{tabulate}
+use Rattle.message.specs.Lists.{tabulate}
 use Rattle.tree.proofs.TreeLaws.{pairAt, row-more, row-done}
 use Rattle.tree.proofs.row.Statement.{statement}
 use Rattle.tree.proofs.row.Tie as tie
