@@ -1,7 +1,8 @@
 #!/usr/bin/env python3
 """Reads every contract of the repository as an auditor would, and fails on the first kind of thing that would make one worthless.
 
-For each public call (a `pub fn` that another crate can name, and every exported function) it prints signature and contract, and checks:
+For each public call (a `pub fn` that another crate can name, and every exported function; not in a crate that only one other part may name) it
+prints signature and contract, and checks:
   total     it has no `requires`;
   tight     it has an `ensures` whose facts are equations. On the left stands the result, a field of it, or what is left in something lent by
             `&mut`; or a record assembled of these alone. On the right stands a term in which neither the result nor anything left behind
@@ -34,6 +35,8 @@ ASSEMBLES = {"replied", "outcome", "buffer"}  # records made of their arguments:
 OUTSIDE = set()  # public calls whose result no contract can pin: none
 BY_POWERS_OF_TWO = ["field", "felt", "fold"]  # their code, and what it calls, divides and takes remainders by nothing else (request 2026-03)
 WRAPPING = re.compile(r"wrapping_(add|sub)_u(8|16|32|64)")  # what that code may call of std::num
+# crates of one part: what may name them. Their functions are no interface for others, and may require what their callers have tested.
+WITHIN = {"reader_items": {"reader_queries", "reader"}, "reader_queries": {"reader"}}
 TESTS_ONLY = {"test_exports"}  # passes calls on to the comparisons; no interface for users
 
 faults = []
@@ -193,6 +196,15 @@ def check_forms():
             for a, b, c in zip(words, words[1:], words[2:]):
                 if a == "extern" and (b != '"C"' or c != "fn"):
                     fault(where, f"'extern {b} {c}'")
+
+
+def check_within():
+    """A crate of one part is named by that part alone."""
+    for line in (ROOT / "crates.txt").read_text().splitlines():
+        crate, _, named = line.partition(":")
+        for inner in set(named.split()) & set(WITHIN):
+            if not line.startswith("#") and crate not in WITHIN[inner]:
+                fault("crates.txt", f"{crate} names {inner}, which is for {', '.join(sorted(WITHIN[inner]))} alone")
 
 
 def structs():
@@ -504,7 +516,7 @@ def check_edits(promises):
                 old = None
             elif not re.fullmatch(r"(#.*)?", line):
                 fault(where, f"a line of no known kind: {line}")
-        if f"`{path.stem}`" not in promises:
+        if f"`{path.stem}`" not in promises and f"`{crate}/{path.stem}`" not in promises:
             fault(where, "not named in docs/PROMISES.md")
         try:
             kinds = kinds_of(before, after)
@@ -601,9 +613,10 @@ def audit(listed=False):
     """One line that tells what was read; what is wrong is in `faults`."""
     faults.clear()
     check_forms()
+    check_within()
     fields_of = structs()
     every = read_all()
-    calls = [f for f in every if f.public]
+    calls = [f for f in every if f.public and f.name.split("::")[0] not in WITHIN]
     for call in calls:
         if listed:
             print(f"{call.name}({' '.join(call.params.split())})" + (f" -> {call.result}" if call.result else ""))

@@ -21,7 +21,7 @@ use Rattle.answer.specs.declared.Answer.{Answer}
 use Rattle.answer.specs.Table.{answered, open-so-far}
 use Rattle.reader_model.specs.declared.Reply.{Reply}
 use Rattle.reader_model.specs.Model.{Buffer, stored, step, fed, openAnswer, answerOf, pieced, holding}
-use Rattle.reader.proofs.Laws.{taken, left}
+use Rattle.reader_items.proofs.Laws.{taken, left}
 
 -- No item is longer than the buffer.
 pub item-fits : (stage : Stage) → itemLength stage ≤ 32

@@ -1,9 +1,5 @@
 // The streaming reader of FRI proofs. The file is a run of items of at most 32 bytes; bytes are gathered in a buffer, and whatever is decided is decided
 // at an item's last byte. Every function equals its definition in the crate below, with SHA-256 for the hash.
-mod queries;
-mod sections;
-mod state;
-
 ghost use mathlib.Core.Path.{_≡_};
 ghost use mathlib.Core.Bool.{cond};
 ghost use Prim.Native.Nat.{_+_, _≤_, _<_, min};
@@ -15,7 +11,7 @@ ghost use Rattle.reader_model.specs.State.{itemLength, tables, whole};
 ghost use Rattle.reader_model.specs.Items.{advanced};
 ghost use Rattle.answer.specs.Table.{accepted, too-few-bytes};
 ghost use Rattle.reader_model.specs.Model.{isTail, fed, started, replied, pieced, buffer, holding, ended, opened};
-ghost use Rattle.reader.specs.Private.{Sane, afterItem};
+ghost use Rattle.reader_items.specs.Private.{Sane, afterItem};
 use answer::Answer;
 use params::Params;
 use reader_model::Core;
@@ -40,19 +36,23 @@ fn dispatch(
     let stage = c.stage;
     let params = c.params;
     match stage {
-        Stage::ParameterCount => sections::after_count(c, params::HEADER_SIZE, Stage::Parameters),
-        Stage::Parameters => sections::after_parameters(c),
-        Stage::RootCount => sections::after_count(c, params.k as usize, Stage::Root),
-        Stage::Root => sections::after_root(c, roots, challenges),
+        Stage::ParameterCount => reader_items::sections::after_count(
+            c,
+            params::HEADER_SIZE,
+            Stage::Parameters,
+        ),
+        Stage::Parameters => reader_items::sections::after_parameters(c),
+        Stage::RootCount => reader_items::sections::after_count(c, params.k as usize, Stage::Root),
+        Stage::Root => reader_items::sections::after_root(c, roots, challenges),
         Stage::CoefficientCount => {
             let count = params::final_count(params);
-            sections::after_count(c, count, Stage::Coefficient)
+            reader_items::sections::after_count(c, count, Stage::Coefficient)
         }
-        Stage::Coefficient => sections::after_coefficient(c, coefficients),
-        Stage::QueryCount => sections::after_query_count(c),
-        Stage::Value => queries::after_value(c, challenges),
-        Stage::Sibling => queries::after_sibling(c, roots, coefficients),
-        Stage::Tail => state::refuse(c, answer::BYTE_AFTER_THE_END),
+        Stage::Coefficient => reader_items::sections::after_coefficient(c, coefficients),
+        Stage::QueryCount => reader_items::sections::after_query_count(c),
+        Stage::Value => reader_queries::after_value(c, challenges),
+        Stage::Sibling => reader_queries::after_sibling(c, roots, coefficients),
+        Stage::Tail => reader_items::state::refuse(c, answer::BYTE_AFTER_THE_END),
         Stage::Stopped => c,
     }
 }
@@ -66,10 +66,10 @@ fn advance(
 ) -> Core
     ensures { λ r. ⌜ whole r (now (roots .exit)) (now (challenges .exit)) (now (coefficients .exit)) ≡ advanced sha256 (whole c (now (roots .entry)) (now (challenges .entry)) (now (coefficients .entry))) ⌝ }
 {
-    if state::is_sane(c) {
+    if reader_items::state::is_sane(c) {
         dispatch(c, roots, challenges, coefficients)
     } else {
-        state::halt(answer::CLOSED, 0)
+        reader_items::state::halt(answer::CLOSED, 0)
     }
 }
 
@@ -117,7 +117,7 @@ fn feed(
     let mut i = 0;
     while i < bytes.len() {
         let stage = c.stage;
-        let need = state::item_length(stage);
+        let need = reader_items::state::item_length(stage);
         let fill = c.fill;
         if need <= fill {
             break;
@@ -128,8 +128,8 @@ fn feed(
         c.fill = fill + n;
         i += n;
         if n == room {
-            if queries::goes_on(c) {
-                c = queries::up(c);
+            if reader_queries::goes_on(c) {
+                c = reader_queries::up(c);
             } else {
                 c = advance(c, roots, challenges, coefficients);
             }
@@ -149,7 +149,7 @@ pub fn piece_in_place(
     ensures { λ r. ⌜ replied (r .answer) (r .core) (now (roots .exit)) (now (challenges .exit)) (now (coefficients .exit)) ≡ pieced sha256 (whole core (now (roots .entry)) (now (challenges .entry)) (now (coefficients .entry))) (now (bytes .entry)) ⌝ }
 {
     let next = feed(core, roots, challenges, coefficients, bytes);
-    let answer = state::answer_of(next, answer::OPEN);
+    let answer = reader_items::state::answer_of(next, answer::OPEN);
     Progress {
         answer: answer,
         core: next,
@@ -160,7 +160,7 @@ pub fn piece_in_place(
 fn ends_inside(stage: Stage, fill: usize, n: usize) -> bool
     ensures { λ r. ⌜ r ≡ ltb (fill + n) (itemLength stage) ⌝ }
 {
-    let need = state::item_length(stage);
+    let need = reader_items::state::item_length(stage);
     if n < need { fill < need - n } else { false }
 }
 
@@ -173,7 +173,7 @@ pub fn hold(stage: Stage, start: u32, fill: usize, item: &mut [u8; 32], bytes: &
     if ends_inside(stage, fill, length) {
         gather(item, fill, bytes, length);
         let filled = fill + length;
-        let answer = state::open_answer(answer::OPEN, start, filled);
+        let answer = reader_items::state::open_answer(answer::OPEN, start, filled);
         Hold {
             answer: answer,
             fill: filled,
@@ -218,7 +218,7 @@ pub fn piece(state: Reader, bytes: &[u8]) -> Reply
 fn end_number(stage: Stage) -> u8
     ensures { λ r. ⌜ r ≡ cond (isTail stage) accepted too-few-bytes ⌝ }
 {
-    if state::is_tail(stage) {
+    if reader_items::state::is_tail(stage) {
         answer::ACCEPTED
     } else {
         answer::TOO_FEW_BYTES
@@ -232,8 +232,8 @@ pub fn end(state: Reader) -> Reply
     let core = state.core;
     let stage = core.stage;
     let number = end_number(stage);
-    let answer = state::answer_of(core, number);
-    let closed = state::closed_state();
+    let answer = reader_items::state::answer_of(core, number);
+    let closed = reader_items::state::closed_state();
     Reply {
         answer: answer,
         state: closed,
@@ -246,9 +246,9 @@ fn start(p: Params, context: [u8; 32]) -> Reader
 {
     let first = Transcript::start(p, context);
     let transcript = first.state;
-    let cursor = state::no_cursor();
-    let walk = state::no_walk();
-    let tables = state::no_tables();
+    let cursor = reader_items::state::no_cursor();
+    let walk = reader_items::state::no_walk();
+    let tables = reader_items::state::no_tables();
     let core = Core {
         stage: Stage::ParameterCount,
         answer: Answer {
@@ -282,7 +282,7 @@ pub fn open(p: Params, context: [u8; 32]) -> Reply
             state: state,
         }
     } else {
-        let state = state::closed_state();
+        let state = reader_items::state::closed_state();
         Reply {
             answer: Answer {
                 number: answer::PARAMETERS_NOT_VALID,

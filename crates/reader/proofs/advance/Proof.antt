@@ -1,6 +1,6 @@
 -- `reader::advance` meets its contract.
 -- Assumes nothing.
-use Rattle.reader.proofs.Laws.{sane-bounds, advanced-sane, advanced-not}
+use Rattle.reader_items.proofs.Laws.{sane-bounds, advanced-sane, advanced-not}
 use mathlib.Core.Path.{sym, _∙_}
 use borrow.Author.Needs.{needs}
 use Rattle.reader.proofs.advance.Statement.{statement}

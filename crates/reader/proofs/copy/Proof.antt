@@ -7,7 +7,7 @@ use borrow.Author.Needs.{needs}
 use lib.ListN.{length, take}
 use lib.Seq.{sets}
 use Rattle.message.proofs.MessageLaws.{copy-more}
-use Rattle.reader.proofs.Laws.{copy-stop}
+use Rattle.reader_items.proofs.Laws.{copy-stop}
 use Rattle.reader.proofs.copy.Statement.{statement}
 use Rattle.reader.proofs.copy.Tie as tie
 

@@ -1,6 +1,6 @@
 -- `reader::dispatch` meets its contract.
 -- Assumes nothing.
-use Rattle.reader.proofs.Laws.{core-at, item-at}
+use Rattle.reader_items.proofs.Laws.{core-at, item-at}
 use mathlib.Core.Path.{refl}
 use borrow.Author.Needs.{needs}
 use Rattle.reader.proofs.dispatch.Statement.{statement}

@@ -9,7 +9,7 @@ use lib.Seq.{length-take-le}
 use Rattle.sha256.specs.Sha256.{sha256}
 use Rattle.reader_model.specs.State.{itemLength, whole}
 use Rattle.reader_model.specs.Model.{fed}
-use Rattle.reader.proofs.Laws.{goes-on-sane, advanced-risen}
+use Rattle.reader_items.proofs.Laws.{goes-on-sane, advanced-risen}
 use Rattle.reader.proofs.Fold.{item-fits, fed-stopped, fed-all, fed-more, fed-last}
 use Rattle.reader.proofs.feed.Statement.{statement}
 use Rattle.reader.proofs.feed.Tie as tie

@@ -1,7 +1,7 @@
 -- `reader::open` meets its contract.
 -- Assumes nothing.
 use Rattle.reader_model.specs.Model.{opened}
-use Rattle.reader.proofs.Laws.{taken, left}
+use Rattle.reader_items.proofs.Laws.{taken, left}
 use mathlib.Core.Path.{sym, _∙_}
 use borrow.Author.Needs.{needs}
 use Rattle.reader.proofs.open.Statement.{statement}
