@@ -1,15 +1,13 @@
 -- What lent buffers hold: a part that is put, and zeros that are stored turn by turn. Assumes nothing.
 use Prim.Native.Nat.{ℕ, suc, _+_, _≤_, _<_}
-use mathlib.Core.Bool.{Bool, true, false, cond}
 use mathlib.Core.List.{List, _++_, append-nil}
-use mathlib.Core.Path.{_≡_, refl, sym, ap, _∙_}
+use mathlib.Core.Path.{_≡_, sym, ap, _∙_}
 use native.Mathlib.Nat.{zero-add}
 use native.Mathlib.Numerals.{add-one}
 use native.Mathlib.Omega.{arith}
 use borrow.Author.Tests.{le-leb, lt-leb}
-use lib.Dec.{leb}
 use lib.ListN.{length, take, drop, getD, replicate, set, length-replicate, replicate-append-replicate, drop-of-length-le}
-use lib.Seq.{sets, length-sets, drop-cons, set-at, append-snoc}
+use lib.Seq.{sets, drop-cons, set-at, append-snoc}
 use Rattle.message.proofs.MessageLaws.{copy-more}
 use Rattle.buffer.specs.Buffer.{put, cleared}
 
@@ -21,15 +19,6 @@ put-fits buffer at part h = rw (le-leb _ _ h)
 pub put-stays : (buffer : List ℕ) (at : ℕ) (part : List ℕ) → length buffer < at + length part → put buffer at part ≡ buffer
 unfolding put
 put-stays buffer at part h = rw (lt-leb _ _ h)
-
--- Nothing put makes a buffer longer or shorter.
-pub put-length : (buffer : List ℕ) (at : ℕ) (part : List ℕ) → length (put buffer at part) ≡ length buffer
-unfolding put
-put-length buffer at part = go (leb (at + length part) (length buffer))
-  where
-    go : (b : Bool) → length (cond b (sets buffer at part) buffer) ≡ length buffer
-    go true = length-sets buffer at part
-    go false = refl
 
 -- A loop that copies s to the front of l: one element more.
 pub front-more : {d : List ℕ} (l s : List ℕ) (i : ℕ) → d ≡ sets l 0 (take i s) → i < length s → set d i (getD s i 0) ≡ sets l 0 (take (i + 1) s)

@@ -4,8 +4,8 @@ use Prim.Native.Nat.{ℕ, suc, _+_, _-_, _≤_, _<_}
 use mathlib.Core.List.{List, [], _∷_, _++_, append-assoc, append-nil}
 use mathlib.Core.Path.{_≡_, refl, sym, ap, _∙_}
 use native.Mathlib.Omega.{arith}
-use lib.ListN.{length, take, drop, getD, set, length-drop}
-use lib.Seq.{sets, sets-eq, take-at, drop-at, drop-drop, drop-length, getD-take, getD-drop, length-take-le, take-set-le, drop-set-lt, drop-set-add}
+use lib.ListN.{length, take, drop, set, length-drop}
+use lib.Seq.{sets, sets-eq, take-at, drop-at, drop-drop, drop-length, length-take-le, take-set-le, drop-set-lt, drop-set-add}
 use Rattle.message.specs.Bytes.{part}
 use Rattle.message.proofs.MessageLaws.{sets-append}
 
@@ -18,11 +18,6 @@ part-length i n xs h = length-take-le n (drop i xs) (omega (arith, length-drop i
 pub part-drop : (i j n : ℕ) (xs : List ℕ) → part i n (drop j xs) ≡ part (j + i) n xs
 unfolding part
 part-drop i j n xs = ap (λ (x : List ℕ). take n x) (drop-drop i j xs)
-
--- An element by the part that it is in.
-pub part-number : (i n m : ℕ) (xs : List ℕ) → m < n → getD xs (i + m) 0 ≡ getD (part i n xs) m 0
-unfolding part
-part-number i n m xs h = sym (getD-take n (drop i xs) m 0 h ∙ getD-drop i xs m 0)
 
 -- A part that ends where the stored one starts, or before.
 set-before : (l : List ℕ) (i n k a : ℕ) → i + n ≤ k → part i n (set l k a) ≡ part i n l

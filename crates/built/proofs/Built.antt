@@ -10,7 +10,10 @@ use Rattle.sha256.specs.Sha256.{sha256}
 use Rattle.sha256.proofs.HashLaws.{length-sha256, sha256-byte}
 use Rattle.message.specs.Message.{Digest}
 use Rattle.params.specs.declared.Params.{Params}
-use Rattle.params.specs.Parameters.{Valid, fileLength}
+use Rattle.params.specs.declared.Terms.{Terms}
+use Rattle.params.specs.Parameters.{Valid}
+use Rattle.params.specs.Admission.{Admitted}
+use Rattle.params.proofs.AdmissionLaws.{admitted-valid}
 use Rattle.fri.specs.Judge.{verdict}
 use Rattle.fri.specs.Accepted.{Accepted}
 use Rattle.fri.proofs.Exactly.{accepted-verdict}
@@ -34,26 +37,27 @@ module _
         holds = built-proof-holds hash p context f v;
       }
 
--- With SHA-256 the built file is what an accepted file is, and so the verdict accepts it, at its length L.
+-- With SHA-256 the built file is what an accepted file is, and so the verdict accepts it, at its length.
 pub built-is-accepted : (p : Params) (context f : List ℕ) → Valid p → length f ≤ 2 ^ (p .n - p .b)
     → Accepted sha256 p context (builtFile sha256 p context f)
 built-is-accepted = built-holds sha256 length-sha256 sha256-byte
 
-pub built-accepted : (p : Params) (context f : List ℕ) → Valid p → length f ≤ 2 ^ (p .n - p .b)
-    → verdict sha256 p context (builtFile sha256 p context f) ≡ answered accepted (fileLength p)
-built-accepted p context f v short = accepted-verdict sha256 p context (builtFile sha256 p context f) v (built-is-accepted p context f v short)
+pub built-accepted : (a : Terms) (f : List ℕ) → Admitted a → length f ≤ 2 ^ (a .params .n - a .params .b)
+    → verdict sha256 a (builtFile sha256 (a .params) (a .context) f) ≡ answered accepted (length (builtFile sha256 (a .params) (a .context) f))
+built-accepted a f v short =
+    accepted-verdict sha256 a (builtFile sha256 (a .params) (a .context) f) v
+    (built-is-accepted (a .params) (a .context) f (admitted-valid (a .params) v) short)
 
 -- A proof built under one context is a proof under that context, whatever the context is. Nothing is claimed of it under another.
-pub built-under-its-context : (context : List ℕ) (p : Params) (f : List ℕ) → Valid p → length f ≤ 2 ^ (p .n - p .b)
-    → verdict sha256 p context (builtFile sha256 p context f) .number ≡ accepted
-built-under-its-context context p f v short = ap (λ a. a .number) (built-accepted p context f v short)
+pub built-under-its-context : (a : Terms) (f : List ℕ) → Admitted a → length f ≤ 2 ^ (a .params .n - a .params .b)
+    → verdict sha256 a (builtFile sha256 (a .params) (a .context) f) .number ≡ accepted
+built-under-its-context a f v short = ap (λ x. x .number) (built-accepted a f v short)
 
 -- The zero polynomial's proof is accepted.
-pub zero-accepted : (p : Params) (context : List ℕ) → Valid p
-    → verdict sha256 p context (builtFile sha256 p context []) ≡ answered accepted (fileLength p)
-zero-accepted p context v = built-accepted p context [] v (omega arith)
+pub zero-accepted : (a : Terms) → Admitted a
+    → verdict sha256 a (builtFile sha256 (a .params) (a .context) []) ≡ answered accepted (length (builtFile sha256 (a .params) (a .context) []))
+zero-accepted a v = built-accepted a [] v (omega arith)
 
--- For valid parameters and any context some bytes are accepted, so a reader that refuses everything does not answer the verdict.
-pub refusing-all-fails : (p : Params) (context : List ℕ) → Valid p
-    → (file : List ℕ) × (verdict sha256 p context file ≡ answered accepted (fileLength p))
-refusing-all-fails p context v = (builtFile sha256 p context [], zero-accepted p context v)
+-- Where the opening is admitted some bytes are accepted, so a reader that refuses everything does not answer the verdict.
+pub refusing-all-fails : (a : Terms) → Admitted a → (file : List ℕ) × (verdict sha256 a file ≡ answered accepted (length file))
+refusing-all-fails a v = (builtFile sha256 (a .params) (a .context) [], zero-accepted a v)

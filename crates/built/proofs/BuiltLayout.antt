@@ -1,24 +1,20 @@
 -- The built proof has the published layout: its roots and siblings are digests, its values and coefficients are below the modulus, and there
 -- are as many of each as the parameters say. Assumes nothing.
-use Prim.Native.Nat.{ℕ, _+_, _*_, _^_, _-_, _%_, _<_, _≤_}
+use Prim.Native.Nat.{ℕ, _^_, _-_, _%_, _<_, _≤_}
 use mathlib.Core.List.{List, []}
 use mathlib.Core.Path.{_≡_, ap, _∙_}
 use native.Mathlib.Omega.{arith}
 use lib.ListN.{length, getD}
 use Rattle.message.specs.Message.{Digest}
 use Rattle.params.specs.declared.Params.{Params}
-use Rattle.params.specs.Parameters.{Valid, depth, valuesPerLeaf, height, leafCount, finalCount}
+use Rattle.params.specs.Parameters.{Valid, height, leafCount, finalCount}
 use Rattle.params.proofs.LeafLaws.{leaf-lt}
-use Rattle.domain.specs.Domain.{point}
-use Rattle.merkle.specs.Merkle.{leaf}
-use Rattle.merkle.proofs.Opens.{path-length, root-all, path-all}
-use Rattle.fold.specs.Poly.{eval}
+use Rattle.merkle.proofs.Opens.{path-length, leaf-all, root-all, path-all}
 use Rattle.fold.proofs.PolyLaws.{below-at}
-use Rattle.fold.proofs.FoldCheck.{eval-lt}
 use Rattle.fri.specs.Encoding.{IsDigest, IsOpening, HasLayout, openingAt, noOpening}
-use Rattle.built.specs.Built.{leafValues, leafOf, leaves, commit, builtRoot, builtLeaf, layerAt, openingOf, build}
+use Rattle.built.specs.Built.{leafOf, leaves, commit, builtRoot, builtLeaf, layerAt, openingOf, build}
 use Rattle.message.proofs.Tabulate.{tabulate-length, tabulate-at}
-use Rattle.built.proofs.Layers.{leaves-length, layer-length, layer-below}
+use Rattle.built.proofs.Layers.{leaves-length, leaf-count, leaf-below, layer-length, layer-below}
 
 -- Query i opens its leaf in layer j.
 pub built-opening : (hash : List ℕ → Digest) (p : Params) (context f : List ℕ) (i j : ℕ) → i < p .q → j < p .k
@@ -37,10 +33,10 @@ module _
   hash-digest xs = record { size = size xs; below = below xs }
 
   leaf-digest : (f : List ℕ) (j m : ℕ) → m < length (leaves hash p f j) → IsDigest (getD (leaves hash p f j) m [])
-  unfolding leaves leafOf leaf
+  unfolding leaves leafOf
   leaf-digest f j m h =
       let inside : m < leafCount p j = omega (arith, tabulate-length (leafCount p j) (leafOf hash p f j)) in
-      rw (tabulate-at (leafCount p j) (leafOf hash p f j) m [] inside) (hash-digest _)
+      rw (tabulate-at (leafCount p j) (leafOf hash p f j) m [] inside) (leaf-all hash IsDigest hash-digest j _)
 
   commit-digest : (f : List ℕ) (j : ℕ) → IsDigest (commit hash p f j)
   unfolding commit
@@ -48,12 +44,12 @@ module _
 
   module _ (context f : List ℕ) where
     opening-layout : (j m : ℕ) → m < leafCount p j → IsOpening p j (openingOf hash p context f j m)
-    unfolding openingOf leafValues
+    unfolding openingOf
     opening-layout j m h =
         let g : List ℕ = layerAt hash p context f j .poly in
         record {
-          value-count = tabulate-length (valuesPerLeaf p) _;
-          value-below = λ r l. rw (tabulate-at (valuesPerLeaf p) (λ r. eval g (point (p .n) (depth p j) (m + r * leafCount p j))) r 0 l) (eval-lt _ _);
+          value-count = leaf-count p g j _;
+          value-below = leaf-below p g j _;
           sibling-count = path-length hash (height p j) (leaves hash p g j) m;
           sibling = path-all hash IsDigest hash-digest (height p j) (leaves hash p g j) m (leaves-length hash p g j) h (leaf-digest g j);
         }

@@ -27,6 +27,13 @@ use Rattle.message.proofs.Tabulate.{tabulate-length, tabulate-at}
 use Rattle.built.proofs.Layers.{leaves-length, layer-state}
 use Rattle.built.proofs.BuiltLayout.{built-opening}
 
+-- The value that index m names, of those at its leaf, is the polynomial's value at m.
+named-value : (p : Params) (j m : ℕ) (f : List ℕ) → m < valuesPerLeaf p * leafCount p j
+    → valueAt p j m (leafValues p f j (m % leafCount p j)) ≡ eval f (point (p .n) (depth p j) m)
+unfolding valueAt leafValues
+named-value p j m f l =
+    tabulate-at (valuesPerLeaf p) _ (m / leafCount p j) 0 (entry-lt p j m l) ∙ ap (λ i. eval f (point (p .n) (depth p j) i)) (index-named p j m)
+
 -- A polynomial's values in leaf m fold to its fold's value at point m of the next layer.
 point-folds : (p : Params) (j m β : ℕ) (f : List ℕ) → j < p .n → p .n ≤ 30
     → FoldsFrom (point (p .n) (depth p j) m) β (leafValues p f j m) (eval (fold β f) (point (p .n) (depth p (suc j)) m))
@@ -35,13 +42,6 @@ point-folds p j m β f h l =
     let none : m + 0 * leafCount p j ≡ m = omega arith in
     let one : m + 1 * leafCount p j ≡ m + half (p .n) j = omega arith in
     rw (none, one, opposite (p .n) j m h l, ← square (p .n) j m) (fold-check f (point (p .n) j m) β)
-
--- The value that index m names, of those at its leaf, is the polynomial's value at m.
-named-value : (p : Params) (j m : ℕ) (f : List ℕ) → m < valuesPerLeaf p * leafCount p j
-    → valueAt p j m (leafValues p f j (m % leafCount p j)) ≡ eval f (point (p .n) (depth p j) m)
-unfolding valueAt leafValues
-named-value p j m f l =
-    tabulate-at (valuesPerLeaf p) _ (m / leafCount p j) 0 (entry-lt p j m l) ∙ ap (λ i. eval f (point (p .n) (depth p j) i)) (index-named p j m)
 
 -- Leaf m of a layer opens to the layer's root.
 leaf-opens : (hash : List ℕ → Digest) (p : Params) (f : List ℕ) (j m : ℕ) → m < leafCount p j

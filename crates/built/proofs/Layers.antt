@@ -1,19 +1,18 @@
 -- The layers of the built proof: the sizes of their polynomials, and the transcript before each. Assumes nothing.
-use Prim.Native.Nat.{ℕ, zero, suc, _+_, _*_, _^_, _-_, _≤_}
-use mathlib.Core.List.{List, [], _∷_}
-use mathlib.Core.Path.{_≡_, refl, ap, ap₂, _∙_}
+use Prim.Native.Nat.{ℕ, zero, suc, _^_, _-_, _<_, _≤_}
+use mathlib.Core.List.{List, []}
+use mathlib.Core.Path.{_≡_, refl, sym, subst, ap, ap₂, _∙_}
 use native.Mathlib.Nat.{pow-succ'}
 use native.Mathlib.Omega.{arith}
-use lib.ListN.{length, take, length-append, length-replicate}
+use lib.ListN.{length, getD, take, length-append, length-replicate}
 use lib.Seq.{take-suc}
 use Rattle.message.specs.Message.{Digest}
 use Rattle.params.specs.declared.Params.{Params}
-use Rattle.params.specs.Parameters.{header, depth, height, leafCount}
+use Rattle.params.specs.Parameters.{header, valuesPerLeaf, height}
 use Rattle.transcript.specs.Transcript.{start, absorb, absorbed}
 use Rattle.transcript.proofs.TranscriptLaws.{absorbed-snoc}
-use Rattle.domain.specs.Domain.{point}
-use Rattle.fold.specs.Poly.{Below, eval}
-use Rattle.fold.proofs.FoldCheck.{fold-length, fold-below}
+use Rattle.fold.specs.Poly.{Below}
+use Rattle.fold.proofs.FoldCheck.{fold-length, fold-below, eval-lt}
 use Rattle.built.specs.Built.{padded, leafValues, leaves, nextLayer, layerAt, builtRoot}
 use Rattle.message.specs.Lists.{tabulate}
 use Rattle.message.proofs.Tabulate.{tabulate-length, tabulate-at}
@@ -26,14 +25,14 @@ pub leaves-length : (hash : List ℕ → Digest) (p : Params) (f : List ℕ) (j 
 unfolding leaves
 leaves-length hash p f j = tabulate-length _ _
 
--- A leaf's values, written out.
-pub leaf-two : (p : Params) (f : List ℕ) (j m : ℕ)
-    → leafValues p f j m ≡ eval f (point (p .n) (depth p j) m) ∷ eval f (point (p .n) (depth p j) (m + leafCount p j)) ∷ []
-unfolding leafValues tabulate
-leaf-two p f j m =
-    let none : m + 0 * leafCount p j ≡ m = omega arith in
-    let one : m + 1 * leafCount p j ≡ m + leafCount p j = omega arith in
-    rw (none, one)
+-- As many values as a leaf has, each a field number.
+pub leaf-count : (p : Params) (f : List ℕ) (j m : ℕ) → length (leafValues p f j m) ≡ valuesPerLeaf p
+unfolding leafValues
+leaf-count p f j m = tabulate-length (valuesPerLeaf p) _
+
+pub leaf-below : (p : Params) (f : List ℕ) (j m r : ℕ) → r < valuesPerLeaf p → getD (leafValues p f j m) r 0 < 3221225473
+unfolding leafValues
+leaf-below p f j m r l = subst (λ v. v < 3221225473) (sym (tabulate-at (valuesPerLeaf p) _ r 0 l)) (eval-lt _ _)
 
 module _ (hash : List ℕ → Digest) (p : Params) (context f : List ℕ) where
   -- Each fold halves the number of coefficients.

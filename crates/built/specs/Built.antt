@@ -7,7 +7,7 @@ use Rattle.params.specs.declared.Params.{Params}
 use Rattle.params.specs.Parameters.{header, depth, valuesPerLeaf, height, leafCount, indexBits}
 use Rattle.message.specs.Message.{Digest}
 use Rattle.domain.specs.Domain.{point}
-use Rattle.merkle.specs.Merkle.{rootOf, path, leaf}
+use Rattle.merkle.specs.Merkle.{rootOf, path, leafDigest}
 use Rattle.transcript.specs.Transcript.{start, absorb, challenge, finish, drawn}
 use Rattle.fold.specs.Poly.{eval, fold}
 use Rattle.fri.specs.Encoding.{Opening, Proof, encode}
@@ -29,7 +29,7 @@ leafValues p f j m = tabulate (valuesPerLeaf p) (λ r. eval f (point (p .n) (dep
 module _ (hash : List ℕ → Digest) (p : Params) where
   -- The digest of leaf m of layer j of the polynomial f, all of them, and their root.
   unfoldable pub leafOf : List ℕ → ℕ → ℕ → Digest
-  leafOf f j m = leaf hash (leafValues p f j m)
+  leafOf f j m = leafDigest hash j (leafValues p f j m)
 
   unfoldable pub leaves : List ℕ → ℕ → List Digest
   leaves f j = tabulate (leafCount p j) (leafOf f j)

@@ -6,7 +6,7 @@ ghost use mathlib.Core.Path.{_≡_};
 ghost use Prim.Native.Nat.{_+_, _*_, _<_};
 ghost use lib.ListN.{getD};
 use answer::Answer;
-use params::Params;
+use params::Terms;
 use reader_model::Reader;
 
 // What stands for a piece's length in an end call.
@@ -95,8 +95,8 @@ fn run_calls(state: Reader, count: usize) -> bool {
 }
 
 // The opening, also one that is refused, and the calls.
-fn run_opened(p: Params, context: [u8; 32], count: usize) -> bool {
-    let opened = reader::open(p, context);
+fn run_opened(a: Terms, count: usize) -> bool {
+    let opened = reader::open(a);
     io::write_all(STDOUT_FILENO, b"open ");
     print_answer(opened.answer);
     run_calls(opened.state, count)
@@ -104,10 +104,10 @@ fn run_opened(p: Params, context: [u8; 32], count: usize) -> bool {
 
 // One script; false at the end of the input.
 fn run_script() -> bool {
-    let mut p = [0u8; 4];
+    let mut p = [0u8; params::HEADER_SIZE];
     let mut context = [0u8; 32];
     let mut size = [0u8; 2];
-    if io::read_full(0, &mut p) < 4 {
+    if io::read_full(0, &mut p) < params::HEADER_SIZE {
         return false;
     }
     if io::read_full(0, &mut context) < 32 {
@@ -116,13 +116,8 @@ fn run_script() -> bool {
     if io::read_full(0, &mut size) < 2 {
         return false;
     }
-    let params = Params {
-        n: p[0],
-        b: p[1],
-        k: p[2],
-        q: p[3],
-    };
-    run_opened(params, context, number_of(size))
+    let params = params::from_header(&p);
+    run_opened(Terms { params, context }, number_of(size))
 }
 
 fn main() {

@@ -94,7 +94,3 @@ module _ (t : Table) where
           rw (none-earliest f bs (λ g l u. w .none-before g l (omega arith)), w .decides) in
           let sum : (length bs - suc f) + suc f ≡ length bs = omega (arith, w .high) in
           rw sum at (earliest-stays (length bs - suc f) (suc f) bs (answered n (suc f)) here)
-
-  pub decide-none : (bs : List ℕ) → decide t bs ≡ none ↔ ((e : ℕ) → 0 < e → e ≤ length bs → t .refusal (take e bs) ≡ none)
-  unfolding decide
-  decide-none bs = (earliest-none (length bs) bs, none-earliest (length bs) bs)

@@ -150,7 +150,7 @@ module _ {S : Type 0} {p : Process} {opened : S} {step : S → ℕ → S} {says 
   denotes-prefix = prefix-rule (tableOf p) (byByte opened step says ends shut) follows
 
   -- For a judgement of width w: no state is open past w bytes, and the end call accepts w bytes only.
-  pub denotes-size : {w : ℕ} → Width p w → (cs : List Call) → SizeRule w (byByte opened step says ends shut) cs
+  pub denotes-size : {w : ℕ} → Width p w → (cs : List Call) → SizeRule (λ _. some w) (byByte opened step says ends shut) cs
   denotes-size width = size-rule width (den .begins) (byByte opened step says ends shut) follows
 
   -- The answer to a piece before any end call, and that to the end call, are those of the judgement on the bytes joined.

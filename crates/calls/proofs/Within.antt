@@ -1,47 +1,29 @@
 -- Where a judgement has a width w, its file has w bytes: no reader that follows its table is open past them, and none accepts other than w. The proof
 -- file's judgement is such. Assumes nothing.
 use Prim.Native.Nat.{ℕ, zero, suc, _≤_, _<_}
-use mathlib.Core.Bool.{true, false, cond}
+use mathlib.Core.Bool.{true, false}
 use mathlib.Core.List.{List, [], _∷_, _++_, append-nil, append-assoc}
-use mathlib.Core.Option.{Option·getD}
-use mathlib.Core.Path.{_≡_, refl, sym, ap, _∙_}
+use mathlib.Core.Option.{some, Option·some-inj}
+use mathlib.Core.Path.{_≡_, refl, sym, ap}
 use native.Mathlib.Omega.{arith}
-use lib.Dec.{eqb}
 use lib.ListN.{length, take}
-use borrow.Author.Tests.{eq-eqb, ne-eqb}
-use Rattle.answer.specs.Table.{answered, open-so-far, accepted, too-few-bytes}
+use Rattle.answer.specs.Table.{open-so-far, accepted}
 use Rattle.params.specs.declared.Params.{Params}
-use Rattle.params.specs.Parameters.{valid}
+use Rattle.params.specs.declared.Terms.{Terms}
+use Rattle.params.specs.Admission.{Admitted}
+use Rattle.params.proofs.AdmissionLaws.{admits-true}
 use Rattle.message.specs.Message.{Digest}
-use Rattle.fri.specs.Process.{Process, Result, run, left, outcome, bytes, _>>=_, _>>_, short, refused, ended}
+use Rattle.fri.specs.Process.{Process, Result, run, left, outcome, bytes, done, short, refused, ended, _>>=_, _>>_}
 use Rattle.fri.specs.Judge.{pieceAnswer, endAnswer, count, sections, judgement, verdict}
 use Rattle.fri.proofs.Process.{Width, Extent, extent, few, fault, full}
 use Rattle.calls.specs.Calls.{Call, piece, end, endsOnce, joined, Reader}
-use Rattle.calls.specs.Plain.{decide, afterPiece, afterEnd}
+use Rattle.calls.specs.Plain.{afterPiece, afterEnd}
 use Rattle.calls.specs.Demand3.{SizeRule}
-use Rattle.calls.specs.Judged.{refusalOf, tableOf}
+use Rattle.calls.specs.Judged.{tableOf}
 use Rattle.calls.proofs.Follows.{Follows, plainly, shut-answers, answers-plain}
-use Rattle.calls.proofs.Judged.{Begins, decide-judged, plain-piece, plain-end}
+use Rattle.calls.proofs.Judged.{Begins, plain-piece, plain-end}
 
 module _ {p : Process} {w : ℕ} (width : Width p w) (begins : Begins p) where
-  -- The end call in document 01's words: the earliest refusal if there is one, else 1 at w if the bytes are w, and 26 at their number if not.
-  pub plain-end-size : (bs : List ℕ)
-      → afterEnd (tableOf p) bs
-      ≡ Option·getD (decide (tableOf p) bs) (cond (eqb (length bs) w) (answered accepted w) (answered too-few-bytes (length bs)))
-  unfolding endAnswer
-  plain-end-size bs =
-      plain-end p begins bs
-      ∙ same (run p bs 0) (extent width bs 0)
-      ∙ ap (λ o. Option·getD o (cond (eqb (length bs) w) (answered accepted w) (answered too-few-bytes (length bs))))
-      (sym (decide-judged p begins bs))
-    where
-      same : (r : Result) → Extent w bs 0 r
-          → endAnswer r (length bs) ≡ Option·getD (refusalOf r) (cond (eqb (length bs) w) (answered accepted w) (answered too-few-bytes (length bs)))
-      same short (few h) = rw (ne-eqb (length bs) w (omega arith))
-      same (refused c place) (fault g h i j) = refl
-      same (ended [] place) (full h e) = rw (eq-eqb (length bs) w (omega arith)) (ap (λ d. answered accepted d) (omega arith))
-      same (ended (x ∷ xs) place) (full h e) = refl
-
   -- A number below 20 to a piece is 0 and to an end call 1, with what the table says of them: the judgement's refusals have numbers from 20 on.
   piece-number : (bs : List ℕ) → afterPiece (tableOf p) bs .number < 20
       → (afterPiece (tableOf p) bs .number ≡ open-so-far) × (afterPiece (tableOf p) bs .place ≡ length bs) × (length bs ≤ w)
@@ -90,21 +72,28 @@ module _ {p : Process} {w : ℕ} (width : Width p w) (begins : Begins p) where
   plain-accepted (end ∷ cs) bs (suc i) h n = absurd (omega (arith, ap (λ a. a .number) (shut-answers (tableOf p) cs bs i (omega arith))))
 
   -- Of any reader that follows the table, and every list of calls.
-  pub size-rule : {S : Type 0} (r : Reader S) → Follows (tableOf p) r → (cs : List Call) → SizeRule w r cs
+  pub size-rule : {S : Type 0} (r : Reader S) → Follows (tableOf p) r → (cs : List Call) → SizeRule (λ _. some w) r cs
   size-rule r f cs = record {
     open-place = λ i h. rw (answers-plain (tableOf p) r f cs) (λ n. plain-open cs [] i h n .0);
-    open-within = λ i h. rw (answers-plain (tableOf p) r f cs) (λ n. omega (arith, plain-open cs [] i h n));
+    open-within = λ i h. rw (answers-plain (tableOf p) r f cs) (λ n l e. omega (arith, plain-open cs [] i h n, Option·some-inj .0 e));
     accepted-call = λ i h. rw (answers-plain (tableOf p) r f cs) (λ n. plain-accepted cs [] i h n .0);
-    accepted-bytes = λ i h. rw (answers-plain (tableOf p) r f cs) (λ n. plain-accepted cs [] i h n .1);
-    accepted-place = λ i h. rw (answers-plain (tableOf p) r f cs) (λ n. plain-accepted cs [] i h n .2);
+    accepted-bytes = λ i h. rw (answers-plain (tableOf p) r f cs) (λ n. ap some (sym (plain-accepted cs [] i h n .1)));
+    accepted-place = λ i h. rw (answers-plain (tableOf p) r f cs) (λ n. omega (arith, plain-accepted cs [] i h n));
   }
 
 -- The judgement of a proof file refuses nothing before the first byte, and the verdict on a whole file is the plain reader's answer to its end call.
-module _ (hash : List ℕ → Digest) (p : Params) (context : List ℕ) where
-  pub judgement-begins : Begins (judgement hash p context)
-  unfolding judgement sections count bytes _>>=_ _>>_ run left outcome
-  judgement-begins = refl
+module _ (hash : List ℕ → Digest) (p : Params) where
+  pub sections-begin : (s : Digest) → Begins (sections hash p s (λ _. done))
+  unfolding sections count bytes _>>=_ _>>_ run left outcome
+  sections-begin s = refl
 
-  pub verdict-plain : (file : List ℕ) → valid p ≡ true → verdict hash p context file ≡ afterEnd (tableOf (judgement hash p context)) file
-  unfolding verdict
-  verdict-plain file v = rw v (sym (plain-end (judgement hash p context) judgement-begins file))
+  pub judgement-begins : (context : List ℕ) → Begins (judgement hash p context)
+  unfolding judgement
+  judgement-begins context = sections-begin _
+
+pub verdict-plain : (hash : List ℕ → Digest) (a : Terms) (file : List ℕ) → Admitted a
+    → verdict hash a file ≡ afterEnd (tableOf (judgement hash (a .params) (a .context))) file
+unfolding verdict
+verdict-plain hash a file v =
+    rw (admits-true (a .params) v)
+    (sym (plain-end (judgement hash (a .params) (a .context)) (judgement-begins hash (a .params) (a .context)) file))

@@ -3,6 +3,7 @@
 use Prim.Native.Nat.{ℕ, suc, _≤_, _<_}
 use mathlib.Core.Bool.{true, false}
 use mathlib.Core.List.{List, _++_}
+use mathlib.Core.Option.{Option, some}
 use mathlib.Core.Path.{_≡_}
 use lib.ListN.{length, take}
 use Rattle.answer.specs.declared.Answer.{Answer}
@@ -64,12 +65,15 @@ pub record StateRule {S : Type 0} (r : Reader S) (cs : List Call) : Type 0 where
   -- After an end call, any call leaves the state as it is.
   pub closed-stays : (c : Call) → hasEnd cs ≡ true → next r (leaves r cs) c ≡ leaves r cs
 
--- What the table says of the answers 0 and 1, where a file has `size` bytes: of answer number i to the calls cs, counted from 0.
-pub record SizeRule {S : Type 0} (size : ℕ) (r : Reader S) (cs : List Call) : Type 0 where
+-- What the table says of the answers 0 and 1, where `size` is the length of a file that begins with the bytes so far, or none while they do not tell
+-- it: of answer number i to the calls cs, counted from 0.
+pub record SizeRule {S : Type 0} (size : List ℕ → Option ℕ) (r : Reader S) (cs : List Call) : Type 0 where
   -- 0 is given at the number of bytes so far, and they are no more than the file has: no reader is open past the file's end.
   pub open-place : (i : ℕ) → i < length cs → nth r cs i .number ≡ open-so-far → nth r cs i .place ≡ length (joined (take (suc i) cs))
-  pub open-within : (i : ℕ) → i < length cs → nth r cs i .number ≡ open-so-far → nth r cs i .place ≤ size
-  -- 1 is given to the first end call only, at the file's size, and the bytes before that call are as many.
+  pub open-within : (i : ℕ) → i < length cs → nth r cs i .number ≡ open-so-far
+      → (l : ℕ) → size (joined (take (suc i) cs)) ≡ some l → nth r cs i .place ≤ l
+  -- 1 is given to the first end call only, at the number of bytes before it, and the file has as many.
   pub accepted-call : (i : ℕ) → i < length cs → nth r cs i .number ≡ accepted → endsOnce (take (suc i) cs) ≡ true
-  pub accepted-bytes : (i : ℕ) → i < length cs → nth r cs i .number ≡ accepted → length (joined (take (suc i) cs)) ≡ size
-  pub accepted-place : (i : ℕ) → i < length cs → nth r cs i .number ≡ accepted → nth r cs i .place ≡ size
+  pub accepted-bytes : (i : ℕ) → i < length cs → nth r cs i .number ≡ accepted
+      → size (joined (take (suc i) cs)) ≡ some (length (joined (take (suc i) cs)))
+  pub accepted-place : (i : ℕ) → i < length cs → nth r cs i .number ≡ accepted → nth r cs i .place ≡ length (joined (take (suc i) cs))

@@ -2,18 +2,19 @@
 use Prim.Native.Nat.{ℕ, _≤_, _<_}
 use mathlib.Core.Bool.{true, false}
 use mathlib.Core.List.{List, [], _∷_}
+use mathlib.Core.Option.{Option}
 use mathlib.Core.Logic.{_↔_}
 use mathlib.Core.Path.{_≡_, refl, sym, ap, subst, _∙_}
 use lib.ListN.{length, take, getD}
 use Rattle.answer.specs.declared.Answer.{Answer}
 use Rattle.answer.specs.Table.{answered, open-so-far, accepted}
-use Rattle.params.specs.declared.Params.{Params}
-use Rattle.params.specs.Parameters.{fileLength}
+use Rattle.params.specs.declared.Terms.{Terms}
+use Rattle.fri.specs.Size.{knownLength}
 use Rattle.calls.specs.Calls.{Call, piece, end, hasEnd, endsOnce, stateAfter, answers, next, leaves, given, nth, lastOr, lastGiven, Refuses, Reader as Calls}
 use Rattle.calls.specs.Plain.{Table}
 use Rattle.calls.specs.Demand3.{Demand3, StateRule, PrefixRule, SizeRule, Agree, InPieces, toPiece}
 use Rattle.reader_model.specs.declared.Tables.{Tables}
-use Rattle.demands.specs.Demands.{States, WhenValid, WhenNot, Demands}
+use Rattle.demands.specs.Demands.{States, WhenAdmitted, WhenRefused, Demands}
 
 -- The state h of the reader b stands for the state s of r where h is f s.
 pub record Stands {S H : Type 0} (f : S → H) (r : Calls S) (b : Calls H) : Type 0 where
@@ -106,11 +107,11 @@ module _ {S H : Type 0} (f : S → H) (r : Calls S) (b : Calls H) (i : Stands f 
   was : (cs : List Call) (n c : ℕ) → nth b cs n .number ≡ c → nth r cs n .number ≡ c
   was cs n c e = sym (number-of (nth-image cs n)) ∙ e
 
-  size-image : (size : ℕ) (cs : List Call) → SizeRule size r cs → SizeRule size b cs
+  size-image : (size : List ℕ → Option ℕ) (cs : List Call) → SizeRule size r cs → SizeRule size b cs
   size-image size cs z =
       record {
         open-place = λ n h e. place-of (nth-image cs n) ∙ z .open-place n h (was cs n open-so-far e);
-        open-within = λ n h e. subst (λ (x : Answer). x .place ≤ size) (sym (nth-image cs n)) (z .open-within n h (was cs n open-so-far e));
+        open-within = λ n h e l s. subst (λ (x : Answer). x .place ≤ l) (sym (nth-image cs n)) (z .open-within n h (was cs n open-so-far e) l s);
         accepted-call = λ n h e. z .accepted-call n h (was cs n accepted e);
         accepted-bytes = λ n h e. z .accepted-bytes n h (was cs n accepted e);
         accepted-place = λ n h e. place-of (nth-image cs n) ∙ z .accepted-place n h (was cs n accepted e);
@@ -120,17 +121,17 @@ module _ {S H : Type 0} (f : S → H) (r : Calls S) (b : Calls H) (i : Stands f 
   abbrev image : (H → Tables) → States S → States H
   image tables k = record { shut = f (k .shut); tablesIn = tables; refusedWith = λ a t. f (k .refusedWith a t) }
 
-  other-image : (tables : H → Tables) {opening : Answer} {k : States S} → WhenNot opening k r → WhenNot opening (image tables k) b
-  other-image tables w =
+  refused-image : (tables : H → Tables) {a : Terms} {opening : Answer} {k : States S} → WhenRefused a opening k r → WhenRefused a opening (image tables k) b
+  refused-image tables w =
       record {
         refuses = w .refuses;
         closed-each = λ cs n h. nth-image cs n ∙ w .closed-each cs n h;
         stays = λ cs. leaves-image cs ∙ ap f (w .stays cs);
       }
 
-  module _ (p : Params) (context : List ℕ) (opening : Answer) (k : States S) (tables : H → Tables) (same-tables : (s : S) → tables (f s) ≡ k .tablesIn s) where
-    valid-image : WhenValid p context opening k r → WhenValid p context opening (image tables k) b
-    valid-image w =
+  module _ (a : Terms) (opening : Answer) (k : States S) (tables : H → Tables) (same-tables : (s : S) → tables (f s) ≡ k .tablesIn s) where
+    admitted-image : WhenAdmitted a opening k r → WhenAdmitted a opening (image tables k) b
+    admitted-image w =
         record {
           opens = w .opens;
           accepts-exactly = λ cs e g.
@@ -146,7 +147,7 @@ module _ {S H : Type 0} (f : S → H) (r : Calls S) (b : Calls H) (i : Stands f 
               (λ h. there (sym (last-image cs) ∙ h), λ h. last-image cs ∙ back h);
           states = λ cs. states-image cs (w .states cs);
           prefixes = prefix-image (w .prefixes);
-          sizes = λ cs. size-image (fileLength p) cs (w .sizes cs);
+          sizes = λ cs. size-image (knownLength (a .params)) cs (w .sizes cs);
           closes = λ cs e. leaves-image cs ∙ ap f (w .closes cs e);
           refused-leaves = λ cs x e g.
               piece-left cs (x ∷ []) ∙ ap f (w .refused-leaves cs x e (subst Refuses (to-piece cs (x ∷ [])) g))
@@ -154,11 +155,12 @@ module _ {S H : Type 0} (f : S → H) (r : Calls S) (b : Calls H) (i : Stands f 
               ∙ ap (λ (t : Tables). f (k .refusedWith (toPiece b cs (x ∷ [])) t)) (sym (ap tables (leaves-image cs) ∙ same-tables (leaves r cs)));
         }
 
-    pub demands-image : Demands p context opening k r → Demands p context opening (image tables k) b
+    pub demands-image : Demands a opening k r → Demands a opening (image tables k) b
     demands-image d =
         record {
-          valid-opening = λ v. valid-image (d .valid-opening v);
-          other-opening = λ n. other-image tables (d .other-opening n);
+          admitted-opening = λ v. admitted-image (d .admitted-opening v);
+          refused-opening = λ n. refused-image tables (d .refused-opening n);
+          admits-exactly = d .admits-exactly;
           plainly = λ cs. given-image cs ∙ d .plainly cs;
           row-10 = d .row-10;
           row-11 = λ cs n h.

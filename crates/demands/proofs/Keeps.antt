@@ -12,7 +12,7 @@ use Rattle.reader_model.specs.declared.Core.{Core}
 use Rattle.reader_model.specs.declared.Tables.{Tables}
 use Rattle.reader_model.specs.declared.Reader.{Reader}
 use Rattle.reader_model.specs.State.{itemLength}
-use Rattle.reader_model.specs.Items.{sane, numberOf, finals, afterRoot, afterCoefficient, coefficientsAfter, dispatched, kept, advanced}
+use Rattle.reader_model.specs.Items.{sane, numberOf, finals, afterRoot, afterCoefficient, coefficientsAfter, afterItem, advanced}
 use Rattle.reader_model.specs.Model.{stored, step, isStopped}
 
 module _ (hash : List ℕ → Digest) where
@@ -34,7 +34,7 @@ module _ (hash : List ℕ → Digest) where
       by true t true u = absurd (false≢true (rw (t, u) at e))
       by true t false u = absurd (false≢true (rw (t, u) at e))
 
-  dispatch-keeps : (g : Stage) (c : Core) (t : Tables) → isStopped (dispatched hash g c t .stage) ≡ true → kept hash g c t ≡ t
+  dispatch-keeps : (g : Stage) (c : Core) (t : Tables) → isStopped (afterItem hash g c t .core .stage) ≡ true → afterItem hash g c t .tables ≡ t
   dispatch-keeps ParameterCount c t e = refl
   dispatch-keeps Parameters c t e = refl
   dispatch-keeps RootCount c t e = refl

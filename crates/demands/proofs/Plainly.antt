@@ -14,11 +14,13 @@ use Rattle.answer.specs.declared.Answer.{Answer}
 use Rattle.answer.specs.Table.{answered, open-so-far, accepted, closed, too-few-bytes}
 use Rattle.sha256.specs.Sha256.{sha256}
 use Rattle.params.specs.declared.Params.{Params}
-use Rattle.params.specs.Parameters.{Valid, valid, fileLength}
-use Rattle.params.proofs.ParameterLaws.{valid-test}
+use Rattle.params.specs.declared.Terms.{Terms}
+use Rattle.params.specs.Parameters.{fileLength}
+use Rattle.params.specs.Admission.{Admitted}
+use Rattle.params.proofs.AdmissionLaws.{admitted-valid}
 use Rattle.fri.specs.Process.{Process, run}
 use Rattle.fri.specs.Judge.{judgement, verdict}
-use Rattle.rules.specs.Rules.{Rule, count-1, count-2, count-3, count-4, section-1, coefficient, value, folded-value, path, final-value, after-the-end, Refused, NoFault, PieceRow, VerdictRow, so-far, not-valid, whole, too-few}
+use Rattle.rules.specs.Rules.{Rule, count-1, count-2, count-3, count-4, section-1, coefficient, value, folded-value, path, final-value, after-the-end, Refused, NoFault, PieceRow, VerdictRow, so-far, not-admitted, whole, too-few}
 use Rattle.rules.proofs.Exactly.{refused-exactly, piece-exactly, verdict-exactly}
 use Rattle.calls.specs.Calls.{Call, piece, end, hasEnd, answers}
 use Rattle.calls.specs.Plain.{Table, Plain, holds, orElse, decidedBy, earliest, decide, afterPiece, afterEnd, plain}
@@ -31,15 +33,21 @@ use Rattle.demands.specs.Demands.{plainTable, TableRule}
 none-some : {a : Answer} → none ≡ some a → ⊥
 none-some e = let z : _≡_ {A = ℕ} 0 1 = cc in omega arith
 
-module _ (p : Params) (context : List ℕ) where
+module _ (a : Terms) where
+  abbrev p : Params
+  p = a .params
+
+  abbrev context : List ℕ
+  context = a .context
+
   abbrev judge : Process
   judge = judgement sha256 p context
 
   abbrev t : Table
-  t = table sha256 p context
+  t = table sha256 a
 
   abbrev doc : Table
-  doc = plainTable p context
+  doc = plainTable a
 
   -- Both tables refuse alike.
   decide-same : (bs : List ℕ) → decide doc bs ≡ decide t bs
@@ -68,15 +76,15 @@ module _ (p : Params) (context : List ℕ) where
   unfolding afterEnd
   open-end bs e = ap (λ o. Option·getD o (answered (cond (isWhole (run judge bs 0)) accepted too-few-bytes) (length bs))) e
 
-  module _ (v : Valid p) where
+  module _ (v : Admitted a) where
     refuses : (bs : List ℕ) (c d : ℕ) → decide t bs ≡ some (answered c d) ↔ Refused sha256 p context bs c d
-    refuses bs c d = rw (decide-judged judge (judgement-begins sha256 p context) bs) (refused-exactly sha256 p context bs v c d)
+    refuses bs c d = rw (decide-judged judge (judgement-begins sha256 p context) bs) (refused-exactly sha256 p context bs (admitted-valid p v) c d)
 
     piece-rows : (bs : List ℕ) (c d : ℕ) → afterPiece t bs ≡ answered c d ↔ PieceRow sha256 p context bs c d
-    piece-rows bs c d = rw (plain-piece judge (judgement-begins sha256 p context) bs) (piece-exactly sha256 p context bs v c d)
+    piece-rows bs c d = rw (plain-piece judge (judgement-begins sha256 p context) bs) (piece-exactly sha256 p context bs (admitted-valid p v) c d)
 
-    end-rows : (bs : List ℕ) (c d : ℕ) → afterEnd t bs ≡ answered c d ↔ VerdictRow sha256 p context bs c d
-    end-rows bs c d = rw (← verdict-plain sha256 p context bs (valid-test p v)) (verdict-exactly sha256 p context bs c d)
+    end-rows : (bs : List ℕ) (c d : ℕ) → afterEnd t bs ≡ answered c d ↔ VerdictRow sha256 a bs c d
+    end-rows bs c d = rw (← verdict-plain sha256 a bs v) (verdict-exactly sha256 a bs c d)
 
     -- No rule holds where nothing is refused, and the other way round.
     clean : (bs : List ℕ) → decide t bs ≡ none → NoFault sha256 p context bs
@@ -95,14 +103,14 @@ module _ (p : Params) (context : List ℕ) where
         by (some a) e = let r = refuses bs (a .number) (a .place) .0 e in absurd (n (a .number) (a .place) (r .there) (r .rule))
 
     -- Where nothing is refused, the bytes are a whole file exactly if they are as many as L.
-    whole-size : (bs : List ℕ) → decide t bs ≡ none → {c d : ℕ} → VerdictRow sha256 p context bs c d → c ≡ accepted → length bs ≡ fileLength p
-    whole-size bs e (not-valid n) f = absurd (n v)
+    whole-size : (bs : List ℕ) → decide t bs ≡ none → {c d : ℕ} → VerdictRow sha256 a bs c d → c ≡ accepted → length bs ≡ fileLength p
+    whole-size bs e (not-admitted n) f = absurd (n v)
     whole-size bs e {c} {d} (VerdictRow.by-rule w h) f = absurd (none-some (sym e ∙ refuses bs c d .1 h))
     whole-size bs e (whole w n l) f = l
     whole-size bs e (too-few w n l) f = absurd (omega arith)
 
-    short-size : (bs : List ℕ) → decide t bs ≡ none → {c d : ℕ} → VerdictRow sha256 p context bs c d → c ≡ too-few-bytes → length bs < fileLength p
-    short-size bs e (not-valid n) f = absurd (n v)
+    short-size : (bs : List ℕ) → decide t bs ≡ none → {c d : ℕ} → VerdictRow sha256 a bs c d → c ≡ too-few-bytes → length bs < fileLength p
+    short-size bs e (not-admitted n) f = absurd (n v)
     short-size bs e {c} {d} (VerdictRow.by-rule w h) f = absurd (none-some (sym e ∙ refuses bs c d .1 h))
     short-size bs e (whole w n l) f = absurd (omega arith)
     short-size bs e (too-few w n l) f = l
@@ -110,7 +118,7 @@ module _ (p : Params) (context : List ℕ) where
     whole-same : (bs : List ℕ) → decide t bs ≡ none → eqb (length bs) (fileLength p) ≡ isWhole (run judge bs 0)
     whole-same bs e = by (isWhole (run judge bs 0)) (end-rows bs _ _ .0 (open-end bs e))
       where
-        by : (b : Bool) → VerdictRow sha256 p context bs (cond b accepted too-few-bytes) (length bs) → eqb (length bs) (fileLength p) ≡ b
+        by : (b : Bool) → VerdictRow sha256 a bs (cond b accepted too-few-bytes) (length bs) → eqb (length bs) (fileLength p) ≡ b
         by true r = eq-eqb (length bs) (fileLength p) (whole-size bs e r refl)
         by false r = ne-eqb (length bs) (fileLength p) (λ l. omega (arith, short-size bs e r refl))
 
@@ -134,7 +142,7 @@ module _ (p : Params) (context : List ℕ) where
         ap (λ a. a ∷ answers (plain doc b) (holds bs true) cs) (end-same bs)
         ∙ ap (λ (l : List Answer). afterEnd t bs ∷ l) (shut-same b bs cs)
 
-    pub table-rule : TableRule p context
+    pub table-rule : TableRule a
     table-rule =
         record {
           refuses = λ bs c d. rw (decide-same bs) (refuses bs c d);
@@ -159,8 +167,8 @@ module _ (p : Params) (context : List ℕ) where
     piece-open (PieceRow.by-rule h) e = omega (arith, rule-number (h .rule))
     piece-open (so-far n) e = omega arith
 
-    end-open : {bs : List ℕ} {c d : ℕ} → VerdictRow sha256 p context bs c d → c ≡ closed → ⊥
-    end-open (not-valid n) e = n v
+    end-open : {bs : List ℕ} {c d : ℕ} → VerdictRow sha256 a bs c d → c ≡ closed → ⊥
+    end-open (not-admitted n) e = n v
     end-open (VerdictRow.by-rule w h) e = omega (arith, rule-number (h .rule))
     end-open (whole w n l) e = omega arith
     end-open (too-few w n l) e = omega arith

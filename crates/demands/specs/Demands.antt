@@ -13,8 +13,10 @@ use Rattle.answer.specs.declared.Answer.{Answer}
 use Rattle.answer.specs.Table.{answered, open-so-far, accepted, parameters-not-valid, closed}
 use Rattle.sha256.specs.Sha256.{sha256}
 use Rattle.message.specs.Bytes.{Bytes}
-use Rattle.params.specs.declared.Params.{Params}
-use Rattle.params.specs.Parameters.{Valid, valid, fileLength}
+use Rattle.params.specs.declared.Terms.{Terms}
+use Rattle.params.specs.Parameters.{Valid}
+use Rattle.params.specs.Admission.{admissionOf, Admitted}
+use Rattle.fri.specs.Size.{knownLength, isWholeFile}
 use Rattle.fri.specs.Accepted.{Accepted}
 use Rattle.rules.specs.Rules.{Refused, NoFault, PieceRow, VerdictRow}
 use Rattle.calls.specs.Calls.{Call, hasEnd, endsOnce, joined, leaves, given, nth, lastGiven, Refuses, Reader as Calls}
@@ -28,20 +30,20 @@ use Rattle.reader_model.specs.Claim.{table, reader}
 use Rattle.lent_reader.specs.Held.{Held, heldOf, outcomeOf, boundary}
 use Rattle.built.specs.Built.{builtFile}
 
--- The plain reader's table in document 01's words: the bytes are a whole file if they are as many as L. Which byte decides which refusal is said row by
--- row in `TableRule`.
-abbrev pub plainTable : Params → List ℕ → Table
-plainTable p context = record { refusal = table sha256 p context .refusal; whole = λ bs. eqb (length bs) (fileLength p) }
+-- The plain reader's table in document 01's words: the bytes are a whole file if they are as many as it has. Which byte decides which refusal is said
+-- row by row in `TableRule`.
+abbrev pub plainTable : Terms → Table
+plainTable a = record { refusal = table sha256 a .refusal; whole = isWholeFile (a .params) }
 
 -- What the plain reader finds in the bytes bs is what the rows say: the one refusal by the rows, or none where no rule holds.
-pub record TableRule (p : Params) (context : List ℕ) : Type 0 where
-  pub refuses : (bs : List ℕ) (c d : ℕ) → decide (plainTable p context) bs ≡ some (answered c d) ↔ Refused sha256 p context bs c d
-  pub silent : (bs : List ℕ) → decide (plainTable p context) bs ≡ none ↔ NoFault sha256 p context bs
+pub record TableRule (a : Terms) : Type 0 where
+  pub refuses : (bs : List ℕ) (c d : ℕ) → decide (plainTable a) bs ≡ some (answered c d) ↔ Refused sha256 (a .params) (a .context) bs c d
+  pub silent : (bs : List ℕ) → decide (plainTable a) bs ≡ none ↔ NoFault sha256 (a .params) (a .context) bs
 
 -- A reader is closed for the call after these: an end call is among them, or the opening was refused.
-pub data Closed (p : Params) (before : List Call) : Type 0 where
-  after-end : hasEnd before ≡ true → Closed p before
-  after-refusal : ¬ Valid p → Closed p before
+pub data Closed (a : Terms) (before : List Call) : Type 0 where
+  after-end : hasEnd before ≡ true → Closed a before
+  after-refusal : ¬ Admitted a → Closed a before
 
 -- A reader's states by their parts: the closed one, the tables in a state, and a refused one, of its answer and its tables.
 pub record States (S : Type 0) : Type 0 where
@@ -49,47 +51,49 @@ pub record States (S : Type 0) : Type 0 where
   pub tablesIn : S → Tables
   pub refusedWith : Answer → Tables → S
 
--- Of a reader whose opening gave this answer. First, opened with valid parameters.
-pub record WhenValid {S : Type 0} (p : Params) (context : List ℕ) (opening : Answer) (k : States S) (r : Calls S) : Type 0 where
+-- Of a reader whose opening gave this answer. First, where the opening is admitted.
+pub record WhenAdmitted {S : Type 0} (a : Terms) (opening : Answer) (k : States S) (r : Calls S) : Type 0 where
   pub opens : opening ≡ answered open-so-far 0
-  -- The second demand, first half: after any pieces, the end call answers accepted, at L, exactly if the bytes have the published layout and everything in
-  -- them holds.
+  -- The second demand, first half: after any pieces, the end call answers accepted, at their number, exactly if the bytes have the published layout and
+  -- everything in them holds.
   pub accepts-exactly : (cs : List Call) → endsOnce cs ≡ true → Bytes (joined cs)
-      → (lastGiven r cs ≡ answered accepted (fileLength p)) ↔ Accepted sha256 p context (joined cs)
+      → (lastGiven r cs ≡ answered accepted (length (joined cs))) ↔ Accepted sha256 (a .params) (a .context) (joined cs)
   -- Its second half: the proof built from any polynomial under the degree bound is accepted, in whatever pieces it comes.
-  pub accepts-built : (f : List ℕ) → length f ≤ 2 ^ (p .n - p .b) → (cs : List Call) → endsOnce cs ≡ true
-      → joined cs ≡ builtFile sha256 p context f → lastGiven r cs ≡ answered accepted (fileLength p)
+  pub accepts-built : (f : List ℕ) → length f ≤ 2 ^ (a .params .n - a .params .b) → (cs : List Call) → endsOnce cs ≡ true
+      → joined cs ≡ builtFile sha256 (a .params) (a .context) f → lastGiven r cs ≡ answered accepted (length (joined cs))
   -- The third demand.
-  pub any-list : (cs : List Call) → Demand3 (plainTable p context) r cs
+  pub any-list : (cs : List Call) → Demand3 (plainTable a) r cs
   -- The table: what a piece gets after calls with no end call among them, and what the first end call gets, by the rows.
   pub piece-row : (cs : List Call) (xs : List ℕ) → hasEnd cs ≡ false → (c d : ℕ)
-      → (toPiece r cs xs ≡ answered c d) ↔ PieceRow sha256 p context (joined cs ++ xs) c d
-  pub end-row : (cs : List Call) → endsOnce cs ≡ true → (c d : ℕ) → (lastGiven r cs ≡ answered c d) ↔ VerdictRow sha256 p context (joined cs) c d
+      → (toPiece r cs xs ≡ answered c d) ↔ PieceRow sha256 (a .params) (a .context) (joined cs ++ xs) c d
+  pub end-row : (cs : List Call) → endsOnce cs ≡ true → (c d : ℕ) → (lastGiven r cs ≡ answered c d) ↔ VerdictRow sha256 a (joined cs) c d
   -- The rules on refused and closed states, on inputs that agree up to a byte, and on the file's size.
   pub states : (cs : List Call) → StateRule r cs
   pub prefixes : PrefixRule r
-  pub sizes : (cs : List Call) → SizeRule (fileLength p) r cs
+  pub sizes : (cs : List Call) → SizeRule (knownLength (a .params)) r cs
   -- What is left behind. By an end call and any call after it: the closed state. By a byte that is refused: the refused state with its answer, and with
   -- the tables that were there before it. (Pieces leave what their bytes leave one by one, and a piece after a refusal leaves the state as it is.)
   pub closes : (cs : List Call) → hasEnd cs ≡ true → leaves r cs ≡ k .shut
   pub refused-leaves : (cs : List Call) (x : ℕ) → hasEnd cs ≡ false → Refuses (toPiece r cs (x ∷ []))
       → r .pieceNext (leaves r cs) (x ∷ []) ≡ k .refusedWith (toPiece r cs (x ∷ [])) (k .tablesIn (leaves r cs))
 
--- Opened with others: 10 at 0, and then closed, in the one closed state.
-pub record WhenNot {S : Type 0} (opening : Answer) (k : States S) (r : Calls S) : Type 0 where
-  pub refuses : opening ≡ answered parameters-not-valid 0
+-- Where it is refused: the admission's number at 0, and then closed, in the one closed state.
+pub record WhenRefused {S : Type 0} (a : Terms) (opening : Answer) (k : States S) (r : Calls S) : Type 0 where
+  pub refuses : opening ≡ answered (admissionOf a) 0
   pub closed-each : (cs : List Call) (i : ℕ) → i < length cs → nth r cs i ≡ answered closed 0
   pub stays : (cs : List Call) → leaves r cs ≡ k .shut
 
--- With any parameters.
-pub record Demands {S : Type 0} (p : Params) (context : List ℕ) (opening : Answer) (k : States S) (r : Calls S) : Type 0 where
-  pub valid-opening : Valid p → WhenValid p context opening k r
-  pub other-opening : ¬ Valid p → WhenNot opening k r
+-- With any arguments.
+pub record Demands {S : Type 0} (a : Terms) (opening : Answer) (k : States S) (r : Calls S) : Type 0 where
+  pub admitted-opening : Admitted a → WhenAdmitted a opening k r
+  pub refused-opening : ¬ Admitted a → WhenRefused a opening k r
+  -- Admitted are exactly the openings with valid parameters.
+  pub admits-exactly : Admitted a ↔ Valid (a .params)
   -- Every answer is the plain reader's, which is closed from the start exactly if the opening is refused by its rules.
-  pub plainly : (cs : List Call) → given r cs ≡ given (plain (plainTable p context) (not (valid p))) cs
+  pub plainly : (cs : List Call) → given r cs ≡ given (plain (plainTable a) (not (eqb (admissionOf a) open-so-far))) cs
   -- 10 is the opening's answer exactly if the parameters are not valid; 11 is a call's number exactly if the reader is closed for it.
-  pub row-10 : (opening .number ≡ parameters-not-valid) ↔ (¬ Valid p)
-  pub row-11 : (cs : List Call) (i : ℕ) → i < length cs → (nth r cs i .number ≡ closed) ↔ Closed p (take i cs)
+  pub row-10 : (opening .number ≡ parameters-not-valid) ↔ (¬ Valid (a .params))
+  pub row-11 : (cs : List Call) (i : ℕ) → i < length cs → (nth r cs i .number ≡ closed) ↔ Closed a (take i cs)
 
 -- The states of the reader by value, and of the one that a caller holds.
 abbrev pub byValueStates : States Reader
@@ -99,7 +103,7 @@ abbrev pub lentStates : States Held
 lentStates = record { shut = heldOf closedState; tablesIn = λ h. h .tables; refusedWith = λ a t. heldOf (record { core = stopped a; tables = t }) }
 
 -- Of both readers.
-pub record Readers (p : Params) (context : List ℕ) : Type 0 where
-  pub table-rule : Valid p → TableRule p context
-  pub by-value : Demands p context (opened sha256 p context .answer) byValueStates (reader sha256 p context)
-  pub lent : Demands p context (outcomeOf (opened sha256 p context) .answer) lentStates (boundary sha256 p context)
+pub record Readers (a : Terms) : Type 0 where
+  pub table-rule : Admitted a → TableRule a
+  pub by-value : Demands a (opened sha256 a .answer) byValueStates (reader sha256 a)
+  pub lent : Demands a (outcomeOf (opened sha256 a) .answer) lentStates (boundary sha256 a)

@@ -43,7 +43,7 @@ half-bits : (n j : ℕ) → half n j ≡ 2 ^ (n - j - 1)
 unfolding half
 half-bits n j = ap (λ e. 2 ^ e) (omega arith)
 
-pub half-shifted : (n j : ℕ) → n - j - 1 < 32 → 1 * 2 ^ (n - j - 1) % 18446744073709551616 ≡ half n j
+half-shifted : (n j : ℕ) → n - j - 1 < 32 → 1 * 2 ^ (n - j - 1) % 18446744073709551616 ≡ half n j
 half-shifted n j h =
     let small : 2 ^ (n - j - 1) ≤ 2 ^ 31 = pow-le-pow-right {n = 2} (omega arith) {i = n - j - 1} {j = 31} (omega arith) in
     rw (half-bits, one-mul) (mod-eq-of-lt (omega arith))
@@ -53,6 +53,13 @@ half-large n j i h k =
     let large : 2 ^ 32 ≤ 2 ^ (n - j - 1) = pow-le-pow-right {n = 2} (omega arith) {i = 32} {j = n - j - 1} h in
     rw half-bits (sym (mod-eq-of-lt (omega arith)))
 
-pub half-positive : (n j : ℕ) → 0 < half n j
+half-positive : (n j : ℕ) → 0 < half n j
 unfolding half
 half-positive n j = pow-pos (n - suc j)
+
+-- The shifted number divides, and leaves the index's leaf.
+pub shifted-positive : (n j : ℕ) → n - j - 1 < 32 → 0 < 1 * 2 ^ (n - j - 1) % 18446744073709551616
+shifted-positive n j h = rw (half-shifted n j h) (half-positive n j)
+
+pub leaf-shifted : (n j i : ℕ) → n - j - 1 < 32 → i % (1 * 2 ^ (n - j - 1) % 18446744073709551616) ≡ i % half n j
+leaf-shifted n j i h = rw (half-shifted n j h)

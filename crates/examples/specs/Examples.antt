@@ -10,6 +10,7 @@ use Rattle.field.specs.Modular.{mulMod, invMod, subgroupGenerator}
 use Rattle.sha256.specs.Sha256.{sha256}
 use Rattle.params.specs.declared.Params.{Params}
 use Rattle.params.specs.Parameters.{valid, finalCount, fileLength, height, leafCount}
+use Rattle.params.specs.Admission.{termsOf}
 use Rattle.transcript.specs.Transcript.{challenge}
 use Rattle.fold.specs.Poly.{eval, fold}
 use Rattle.fold.specs.Fold.{next}
@@ -41,7 +42,7 @@ small = parameters 4 1 2 1
 
 -- The opening's verdict on no bytes, with a context of zeros.
 abbrev pub opened : Params → Answer
-opened p = verdict sha256 p (replicate 32 0) []
+opened p = verdict sha256 (termsOf p (replicate 32 0)) []
 
 -- A hash whose every byte is ff.
 abbrev pub allOnes : List ℕ → List ℕ

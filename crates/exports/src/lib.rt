@@ -3,22 +3,34 @@
 ghost use mathlib.Core.Path.{_≡_};
 ghost use Rattle.sha256.specs.Sha256.{sha256};
 ghost use Rattle.params.specs.Parameters as parameters;
+ghost use Rattle.params.specs.Admission.{termsOf};
 ghost use Rattle.fri.specs.Judge as judge;
 ghost use Rattle.reader_model.specs.Model.{opened, pieced, ended};
 ghost use Rattle.look_up.specs.LookUp.{lookUpSpan};
 ghost use Rattle.writer.specs.Writer as writer;
 ghost use Rattle.lent_reader.specs.Held.{held, readerOf, outcome, outcomeOf};
 use answer::Answer;
+use lent_reader::SIZES;
+use lent_reader::U8S;
+use lent_reader::U32S;
 use look_up::Span;
 use params::Params;
+use params::Terms;
+use reader_model::CHALLENGES;
+use reader_model::COEFFICIENTS;
+use reader_model::ROOTS;
 
 // The verdict on a whole proof.
 #[no_mangle]
 pub extern "C" fn phieulakhon_verdict(p: Params, context: &[u8; 32], proof: &[u8]) -> Answer
-    ensures { λ r. ⌜ r ≡ judge.verdict sha256 p (now (context .entry)) (now (proof .entry)) ⌝ }
+    ensures { λ r. ⌜ r ≡ judge.verdict sha256 (termsOf p (now (context .entry))) (now (proof .entry)) ⌝ }
 {
     let c = *context;
-    verdict::whole(p, c, proof)
+    let a = Terms {
+        params: p,
+        context: c,
+    };
+    verdict::whole(a, proof)
 }
 
 // The length of a file with these parameters; 0 where they are not valid.
@@ -34,25 +46,28 @@ pub extern "C" fn phieulakhon_file_length(p: Params) -> usize
 pub extern "C" fn phieulakhon_open(
     p: Params,
     context: &[u8; 32],
-    marks: &mut [u8; 10],
-    words: &mut [u32; 10],
-    counts: &mut [usize; 2],
+    u8s: &mut [u8; U8S],
+    u32s: &mut [u32; U32S],
+    sizes: &mut [usize; SIZES],
     item: &mut [u8; 32],
     node: &mut [u8; 32],
     transcript: &mut [u8; 32],
-    roots: &mut [u8; 512],
-    challenges: &mut [u32; 16],
-    coefficients: &mut [u32; 64],
+    roots: &mut [u8; ROOTS],
+    challenges: &mut [u32; CHALLENGES],
+    coefficients: &mut [u32; COEFFICIENTS],
 ) -> Answer
-    ensures { λ r. ⌜ outcome r (now (marks .exit)) (now (words .exit)) (now (counts .exit)) (now (item .exit)) (now (node .exit)) (now (transcript .exit)) (now (roots .exit)) (now (challenges .exit)) (now (coefficients .exit)) ≡ outcomeOf (opened sha256 p (now (context .entry))) ⌝ }
+    ensures { λ r. ⌜ outcome r (now (u8s .exit)) (now (u32s .exit)) (now (sizes .exit)) (now (item .exit)) (now (node .exit)) (now (transcript .exit)) (now (roots .exit)) (now (challenges .exit)) (now (coefficients .exit)) ≡ outcomeOf (opened sha256 (termsOf p (now (context .entry)))) ⌝ }
 {
     let c = *context;
+    let a = Terms {
+        params: p,
+        context: c,
+    };
     lent_reader::open(
-        p,
-        c,
-        marks,
-        words,
-        counts,
+        a,
+        u8s,
+        u32s,
+        sizes,
         item,
         node,
         transcript,
@@ -65,23 +80,23 @@ pub extern "C" fn phieulakhon_open(
 // A piece, of any number of bytes.
 #[no_mangle]
 pub extern "C" fn phieulakhon_piece(
-    marks: &mut [u8; 10],
-    words: &mut [u32; 10],
-    counts: &mut [usize; 2],
+    u8s: &mut [u8; U8S],
+    u32s: &mut [u32; U32S],
+    sizes: &mut [usize; SIZES],
     item: &mut [u8; 32],
     bytes: &[u8],
     node: &mut [u8; 32],
     transcript: &mut [u8; 32],
-    roots: &mut [u8; 512],
-    challenges: &mut [u32; 16],
-    coefficients: &mut [u32; 64],
+    roots: &mut [u8; ROOTS],
+    challenges: &mut [u32; CHALLENGES],
+    coefficients: &mut [u32; COEFFICIENTS],
 ) -> Answer
-    ensures { λ r. ⌜ outcome r (now (marks .exit)) (now (words .exit)) (now (counts .exit)) (now (item .exit)) (now (node .exit)) (now (transcript .exit)) (now (roots .exit)) (now (challenges .exit)) (now (coefficients .exit)) ≡ outcomeOf (pieced sha256 (readerOf (held (now (marks .entry)) (now (words .entry)) (now (counts .entry)) (now (item .entry)) (now (node .entry)) (now (transcript .entry)) (now (roots .entry)) (now (challenges .entry)) (now (coefficients .entry)))) (now (bytes .entry))) ⌝ }
+    ensures { λ r. ⌜ outcome r (now (u8s .exit)) (now (u32s .exit)) (now (sizes .exit)) (now (item .exit)) (now (node .exit)) (now (transcript .exit)) (now (roots .exit)) (now (challenges .exit)) (now (coefficients .exit)) ≡ outcomeOf (pieced sha256 (readerOf (held (now (u8s .entry)) (now (u32s .entry)) (now (sizes .entry)) (now (item .entry)) (now (node .entry)) (now (transcript .entry)) (now (roots .entry)) (now (challenges .entry)) (now (coefficients .entry)))) (now (bytes .entry))) ⌝ }
 {
     lent_reader::piece(
-        marks,
-        words,
-        counts,
+        u8s,
+        u32s,
+        sizes,
         item,
         bytes,
         node,
@@ -95,22 +110,22 @@ pub extern "C" fn phieulakhon_piece(
 // The end call. It leaves the closed state.
 #[no_mangle]
 pub extern "C" fn phieulakhon_end(
-    marks: &mut [u8; 10],
-    words: &mut [u32; 10],
-    counts: &mut [usize; 2],
+    u8s: &mut [u8; U8S],
+    u32s: &mut [u32; U32S],
+    sizes: &mut [usize; SIZES],
     item: &mut [u8; 32],
     node: &mut [u8; 32],
     transcript: &mut [u8; 32],
-    roots: &mut [u8; 512],
-    challenges: &mut [u32; 16],
-    coefficients: &mut [u32; 64],
+    roots: &mut [u8; ROOTS],
+    challenges: &mut [u32; CHALLENGES],
+    coefficients: &mut [u32; COEFFICIENTS],
 ) -> Answer
-    ensures { λ r. ⌜ outcome r (now (marks .exit)) (now (words .exit)) (now (counts .exit)) (now (item .exit)) (now (node .exit)) (now (transcript .exit)) (now (roots .exit)) (now (challenges .exit)) (now (coefficients .exit)) ≡ outcomeOf (ended (readerOf (held (now (marks .entry)) (now (words .entry)) (now (counts .entry)) (now (item .entry)) (now (node .entry)) (now (transcript .entry)) (now (roots .entry)) (now (challenges .entry)) (now (coefficients .entry))))) ⌝ }
+    ensures { λ r. ⌜ outcome r (now (u8s .exit)) (now (u32s .exit)) (now (sizes .exit)) (now (item .exit)) (now (node .exit)) (now (transcript .exit)) (now (roots .exit)) (now (challenges .exit)) (now (coefficients .exit)) ≡ outcomeOf (ended (readerOf (held (now (u8s .entry)) (now (u32s .entry)) (now (sizes .entry)) (now (item .entry)) (now (node .entry)) (now (transcript .entry)) (now (roots .entry)) (now (challenges .entry)) (now (coefficients .entry))))) ⌝ }
 {
     lent_reader::end(
-        marks,
-        words,
-        counts,
+        u8s,
+        u32s,
+        sizes,
         item,
         node,
         transcript,

@@ -16,6 +16,13 @@ pub passed : (a : ℕ) (answer : FieldAnswer) → a < p → checked a answer ≡
 unfolding checked
 passed a answer h = simp (lt-ltb _ _ h)
 
+-- A judged answer has the defined value once its value is that.
+pub judged-value : (a : ℕ) {v w : ℕ} {r : FieldAnswer} → v ≡ w → r ≡ checked a (success v) → r ≡ checked a (success w)
+judged-value a e f = f ∙ ap (λ x. checked a (success x)) e
+
+pub judged-both-value : (a b : ℕ) {v w : ℕ} {r : FieldAnswer} → v ≡ w → r ≡ checked a (checked b (success v)) → r ≡ checked a (checked b (success w))
+judged-both-value a b e f = f ∙ ap (λ x. checked a (checked b (success x))) e
+
 pub inverse-zero : (a : ℕ) → a ≡ 0 → inverseAnswer a ≡ refusal inverse-of-zero
 unfolding inverseAnswer checked
 inverse-zero a h = ap inverseAnswer h ∙ refl

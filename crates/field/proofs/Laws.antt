@@ -22,19 +22,11 @@ pub mulMod-lt : (a b : ℕ) → mulMod a b < p
 unfolding mulMod
 mulMod-lt a b = mod-lt (a * b) (zero-lt-suc 3221225472)
 
-pub negMod-lt : (a : ℕ) → negMod a < p
-unfolding negMod
-negMod-lt a = omega arith
-
 pub powMod-lt : (a e : ℕ) → powMod a e < p
 unfolding powMod
 powMod-lt a e = mod-lt (a ^ e) (zero-lt-suc 3221225472)
 
 -- an argument may be reduced first
-
-pub addMod-reduce : (a b : ℕ) → addMod (a % p) b ≡ addMod a b
-unfolding addMod
-addMod-reduce a b = mod-add-mod a p b
 
 pub mulMod-reduce : (a b : ℕ) → mulMod (a % p) b ≡ mulMod a b
 unfolding mulMod
@@ -70,22 +62,10 @@ pub subMod-neg : (a b : ℕ) → subMod a b ≡ addMod a (negMod b)
 unfolding addMod subMod negMod
 subMod-neg a b = sym (add-mod-mod a (p - b % p) p)
 
-pub subMod-addMod : (a b : ℕ) → addMod (subMod a b) b ≡ a % p
-unfolding addMod subMod
-subMod-addMod a b = omega arith
-
-pub addMod-cancel : (a b c : ℕ) → addMod a b ≡ addMod a c → b % p ≡ c % p
-unfolding addMod
-addMod-cancel a b c e = omega arith
-
 -- the only number below p that gives 0 with a is its negative
 pub negMod-unique : (a b : ℕ) → b < p → addMod a b ≡ 0 → b ≡ negMod a
 unfolding addMod negMod
 negMod-unique a b h e = omega arith
-
-pub negMod-negMod : (a : ℕ) → negMod (negMod a) ≡ a % p
-unfolding negMod
-negMod-negMod a = omega arith
 
 -- products
 
@@ -117,11 +97,6 @@ pub mulMod-negMod : (a b : ℕ) → mulMod a (negMod b) ≡ negMod (mulMod a b)
 mulMod-negMod a b =
     negMod-unique (mulMod a b) (mulMod a (negMod b)) (mulMod-lt a (negMod b))
     (sym (mulMod-addMod a b (negMod b)) ∙ ap (mulMod a) (addMod-neg b) ∙ mulMod-comm a 0 ∙ mulMod-zero a)
-
-pub mulMod-subMod : (a b c : ℕ) → mulMod a (subMod b c) ≡ subMod (mulMod a b) (mulMod a c)
-mulMod-subMod a b c =
-    ap (mulMod a) (subMod-neg b c) ∙ mulMod-addMod a b (negMod c) ∙ ap (addMod (mulMod a b)) (mulMod-negMod a c)
-    ∙ sym (subMod-neg (mulMod a b) (mulMod a c))
 
 pub mulMod-left-comm : (a b c : ℕ) → mulMod a (mulMod b c) ≡ mulMod b (mulMod a c)
 mulMod-left-comm a b c = sym (mulMod-assoc a b c) ∙ ap (λ (x : ℕ). mulMod x c) (mulMod-comm a b) ∙ mulMod-assoc b a c

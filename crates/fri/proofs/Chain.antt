@@ -13,7 +13,7 @@ use Rattle.params.specs.Parameters.{header, depth, leafCount}
 use Rattle.params.proofs.LeafLaws.{leaf-later}
 use Rattle.message.specs.Message.{Digest}
 use Rattle.domain.specs.Domain.{point}
-use Rattle.merkle.specs.Merkle.{climb, leaf}
+use Rattle.merkle.specs.Merkle.{climb, leafDigest}
 use Rattle.transcript.specs.Transcript.{start, absorb, challenge, absorbed}
 use Rattle.fold.specs.Poly.{eval}
 use Rattle.fold.specs.Fold.{Expected, anything, expected, fits, FoldsFrom}
@@ -30,7 +30,7 @@ reached p final j m (o ∷ os) = valueAt p j m (o .values)
 -- What holds of the opening o in layer j, at leaf m of a tree with this root: its form, its path, and that it folds to v.
 pub record Layer (hash : List ℕ → Digest) (p : Params) (j m β : ℕ) (root : Digest) (o : Opening) (v : ℕ) : Type 0 where
   pub form : IsOpening p j o
-  pub opens : climb hash (leaf hash (o .values)) m (o .siblings) ≡ root
+  pub opens : climb hash (leafDigest hash j (o .values)) m (o .siblings) ≡ root
   pub folds : FoldsFrom (point (p .n) (depth p j) m) β (o .values) v
 
 -- What is expected after the opening o in layer j, at leaf m, where s is the transcript after the layer's root.
@@ -44,7 +44,7 @@ pub data Chain (hash : List ℕ → Digest) (p : Params) (final : List ℕ) : �
   layer : {j m : ℕ} {e : Expected} {s root : Digest} {roots : List Digest} {o : Opening} {os : List Opening}
       → IsOpening p j o
       → fits e (valueAt p j m (o .values)) ≡ true
-      → climb hash (leaf hash (o .values)) (m % leafCount p j) (o .siblings) ≡ root
+      → climb hash (leafDigest hash j (o .values)) (m % leafCount p j) (o .siblings) ≡ root
       → Chain hash p final (suc j) (m % leafCount p j) (after hash p j (m % leafCount p j) (absorb hash s root) o) (absorb hash s root) roots os
       → Chain hash p final j m e s (root ∷ roots) (o ∷ os)
 

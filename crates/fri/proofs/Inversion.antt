@@ -238,7 +238,7 @@ module _ (hash : List ℕ → Digest) (p : Params) where
       first query rest zero l e h = let same : l ≡ i = omega arith in rw same (query .chain)
       first query rest (suc t) l e h = rest .chains t l (omega arith) (omega arith)
 
-  pub inverts-sections : (context : List ℕ) → Inverts (sections hash p context) (λ us _. Accepted hash p context us)
+  pub inverts-sections : (context : List ℕ) → Inverts (sections hash p (start hash (header p) context)) (λ us _. Accepted hash p context us)
   unfolding sections encode drawnLeaf words
   inverts-sections context =
       inverts-then (inverts-count headerSize) (inverts-next _ (inverts-bytes headerSize) (λ parameters _. inverts-test _ parameters-differ (λ same.

@@ -65,7 +65,7 @@ module _ (hash : List ℕ → Digest) (p : Params) where
       (reads-queries final t s roots qs (suc i) (λ c l e h. chains (suc c) l (omega arith) (omega arith)))
 
   pub reads-sections : (context : List ℕ) (proof : Proof) → Valid p → HasLayout p proof → Holds hash p context proof
-      → Reads (sections hash p context) (encode p proof) tt
+      → Reads (sections hash p (start hash (header p) context)) (encode p proof) tt
   unfolding sections encode drawnLeaf
   reads-sections context proof v layout holds =
       let s : Digest = start hash (header p) context in

@@ -44,19 +44,22 @@ module _ (hash : List ℕ → Digest) (p : Params) where
       total : suc c * queryLength p 0 (length roots) ≡ queryLength p 0 (length roots) + c * queryLength p 0 (length roots)
       total = suc-mul c (queryLength p 0 (length roots)) ∙ omega arith
 
-  takes-sections : (context : List ℕ) → Takes (sections hash p context) (fileLength p) Any
+  takes-sections : (s : Digest) → Takes (sections hash p s) (fileLength p) Any
   unfolding sections fileLength queriesOffset
-  takes-sections context =
-      let s : Digest = start hash (header p) context in
-      subst (λ w. Takes (sections hash p context) w Any) (omega arith)
+  takes-sections s =
+      subst (λ w. Takes (sections hash p s) w Any) (omega arith)
       (takes-then (takes-count headerSize) (takes-bind _ (takes-bytes headerSize) (λ parameters _. takes-then (takes-ensure _ parameters-differ (omega arith))
       (takes-then (takes-count (p .k)) (takes-bind _ (takes-many (p .k) (takes-bytes 32)) (λ roots e. takes-then (takes-count (finalCount p))
       (takes-bind _ (takes-many (finalCount p) takes-number) (λ final _. takes-then (takes-count (p .q))
       (rw e at (takes-queries (p .q) 0 final (finish hash (absorbed hash s roots) final) s roots))))))))))
 
+  -- From any first transcript, and so of the judgement.
+  pub sections-width : (s : Digest) → Width (sections hash p s (λ _. done)) (fileLength p)
+  sections-width s = takes-sections s .width (λ _. done) 0 (fileLength p) (omega arith) (λ _ _. ends)
+
   pub judgement-width : (context : List ℕ) → Width (judgement hash p context) (fileLength p)
   unfolding judgement
-  judgement-width context = takes-sections context .width (λ _. done) 0 (fileLength p) (omega arith) (λ _ _. ends)
+  judgement-width context = sections-width (start hash (header p) context)
 
 -- Of bytes that a process of width w judges, the end call accepts only w, and there.
 pub accepts-width : (w : ℕ) (xs : List ℕ) (r : Result) (place : ℕ) → Extent w xs 0 r → endAnswer r (length xs) ≡ answered accepted place

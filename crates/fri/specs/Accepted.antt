@@ -9,7 +9,7 @@ use Rattle.params.specs.declared.Params.{Params}
 use Rattle.params.specs.Parameters.{header, indexBits, depth, leafCount}
 use Rattle.message.specs.Message.{Digest}
 use Rattle.domain.specs.Domain.{point}
-use Rattle.merkle.specs.Merkle.{climb, leaf}
+use Rattle.merkle.specs.Merkle.{climb, leafDigest}
 use Rattle.transcript.specs.Transcript.{start, challenge, finish, drawn, absorbed}
 use Rattle.fold.specs.Poly.{eval}
 use Rattle.fold.specs.Fold.{FoldsFrom}
@@ -31,7 +31,7 @@ module _ (hash : List ℕ → Digest) (p : Params) (context : List ℕ) (proof :
 
   -- The digest of the opened leaf of query i in layer j, and the point of its first value.
   unfoldable pub openedLeaf : ℕ → ℕ → Digest
-  openedLeaf i j = leaf hash (openingAt proof i j .values)
+  openedLeaf i j = leafDigest hash j (openingAt proof i j .values)
 
   unfoldable pub pointAt : ℕ → ℕ → ℕ
   pointAt i j = point (p .n) (depth p j) (leafAt i j)

@@ -6,14 +6,16 @@ use mathlib.Core.List.{List, [], _∷_}
 use lib.Dec.{ltb, eqb}
 use lib.ListN.{length, getD}
 use Rattle.answer.specs.declared.Answer.{Answer}
-use Rattle.answer.specs.Table.{answered, open-so-far, accepted, parameters-not-valid, count-differs, parameters-differ, not-below-modulus, not-the-folded-value, path-misses-root, misses-final-polynomial, too-few-bytes, byte-after-the-end}
+use Rattle.answer.specs.Table.{answered, open-so-far, accepted, count-differs, parameters-differ, not-below-modulus, not-the-folded-value, path-misses-root, misses-final-polynomial, too-few-bytes, byte-after-the-end}
 use Rattle.params.specs.declared.Params.{Params}
-use Rattle.params.specs.Parameters.{headerSize, header, valid, finalCount, depth, valuesPerLeaf, height, leafCount, indexBits}
+use Rattle.params.specs.declared.Terms.{Terms}
+use Rattle.params.specs.Admission.{admissionOf}
+use Rattle.params.specs.Parameters.{headerSize, header, finalCount, depth, valuesPerLeaf, height, leafCount, indexBits}
 use Rattle.field.specs.Modular.{p as modulus}
 use Rattle.message.specs.Bytes.{num}
 use Rattle.message.specs.Message.{Digest}
 use Rattle.domain.specs.Domain.{point}
-use Rattle.merkle.specs.Merkle.{climb, leaf}
+use Rattle.merkle.specs.Merkle.{climb, leafDigest}
 use Rattle.transcript.specs.Transcript.{start, absorb, challenge, finish, drawn, absorbed}
 use Rattle.fold.specs.Poly.{eval}
 use Rattle.fold.specs.Fold.{Expected, anything, expected, fits}
@@ -52,7 +54,7 @@ module _ (hash : List ℕ → Digest) (p : Params) where
     values ← many (valuesPerLeaf p) number
     ensure (fits e (valueAt p j m values)) not-the-folded-value
     siblings ← many (height p j) (bytes 32)
-    ensure (sameBytes (climb hash (leaf hash values) (m % leafCount p j) siblings) root) path-misses-root
+    ensure (sameBytes (climb hash (leafDigest hash j values) (m % leafCount p j) siblings) root) path-misses-root
     walk final (suc j) (m % leafCount p j) (expected (point (p .n) (depth p j) (m % leafCount p j)) (challenge hash (absorb hash s root)) values) (absorb hash s root) roots
 
   -- As many queries as given, from query i on: t is the transcript that draws them, s the one before the roots. Of layer 0's values nothing is expected.
@@ -62,9 +64,9 @@ module _ (hash : List ℕ → Digest) (p : Params) where
     walk final 0 (drawn hash t (indexBits p) i) anything s roots
     queries c (suc i) final t s roots
 
-  -- The four sections.
-  unfoldable pub sections : List ℕ → Parser (Unit {0})
-  sections context = do
+  -- The four sections, where s is the transcript before the roots.
+  unfoldable pub sections : Digest → Parser (Unit {0})
+  sections s = do
     count headerSize
     parameters ← bytes headerSize
     ensure (sameBytes parameters (header p)) parameters-differ
@@ -73,11 +75,11 @@ module _ (hash : List ℕ → Digest) (p : Params) where
     count (finalCount p)
     final ← many (finalCount p) number
     count (p .q)
-    queries (p .q) 0 final (finish hash (absorbed hash (start hash (header p) context) roots) final) (start hash (header p) context) roots
+    queries (p .q) 0 final (finish hash (absorbed hash s roots) final) s roots
 
-  -- The judgement as a process.
+  -- The judgement as a process: the transcript starts from the parameters and the context.
   unfoldable pub judgement : List ℕ → Process
-  judgement context = sections context (λ _. done)
+  judgement context = sections (start hash (header p) context) (λ _. done)
 
 -- The answer to a piece, where total bytes are joined so far.
 unfoldable pub pieceAnswer : Result → ℕ → Answer
@@ -93,7 +95,9 @@ endAnswer (refused number place) total = answered number place
 endAnswer (ended [] place) total = answered accepted place
 endAnswer (ended (x ∷ xs) place) total = answered byte-after-the-end (place + 1)
 
--- The verdict on a whole file.
-unfoldable pub verdict : (List ℕ → Digest) → Params → List ℕ → List ℕ → Answer
-verdict hash p context file =
-    cond (valid p) (endAnswer (run (judgement hash p context) file 0) (length file)) (answered parameters-not-valid 0)
+-- The verdict on a whole file: the judgement's, where the opening is admitted.
+unfoldable pub verdict : (List ℕ → Digest) → Terms → List ℕ → Answer
+verdict hash a file =
+    cond (eqb (admissionOf a) open-so-far)
+    (endAnswer (run (judgement hash (a .params) (a .context)) file 0) (length file))
+    (answered (admissionOf a) 0)

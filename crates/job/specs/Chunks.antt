@@ -7,19 +7,19 @@ use mathlib.Core.Path.{_≡_}
 use lib.Dec.{eqb, leb, ltb}
 use lib.ListN.{set, replicate}
 use Rattle.answer.specs.declared.Answer.{Answer}
-use Rattle.answer.specs.Table.{answered, job-too-short, parameters-not-valid}
-use Rattle.params.specs.Parameters.{headerSize, fromHeader, valid}
+use Rattle.answer.specs.Table.{answered, open-so-far, job-too-short}
+use Rattle.params.specs.Admission.{admissionOf}
 use Rattle.sha256.specs.Sha256.{sha256}
-use Rattle.message.specs.Bytes.{part, joined}
+use Rattle.message.specs.Bytes.{joined}
 use Rattle.reader_model.specs.declared.Reader.{Reader}
 use Rattle.reader_model.specs.State.{closedState}
 use Rattle.reader_model.specs.Model.{opened, step, ended, isStopped}
 use Rattle.job.specs.declared.Job.{Job}
-use Rattle.job.specs.Job.{headSize, jobAnswer}
+use Rattle.job.specs.Job.{headSize, termsIn, jobAnswer}
 
 -- The reader that a whole head opens.
 unfoldable pub openedBy : List ℕ → Reader
-openedBy head = opened sha256 (fromHeader head) (part headerSize 32 head) .state
+openedBy head = opened sha256 (termsIn head) .state
 
 -- No byte came yet.
 unfoldable pub begun : Job
@@ -44,7 +44,7 @@ fedChunk j chunk = foldl taken j chunk
 unfoldable pub finished : Job → Answer
 finished j =
     cond (ltb (j .got) headSize) (answered job-too-short (j .got))
-    (cond (valid (fromHeader (j .head))) (ended (j .reader) .answer) (answered parameters-not-valid 0))
+    (cond (eqb (admissionOf (termsIn (j .head))) open-so-far) (ended (j .reader) .answer) (answered (admissionOf (termsIn (j .head))) 0))
 
 -- The head is whole, and its reader is refused or closed.
 unfoldable pub isSettled : Job → Bool

@@ -5,16 +5,13 @@ ghost use mathlib.Core.Bool.{cond};
 ghost use Prim.Native.Nat.{_+_, _-_, _≤_, _<_};
 ghost use lib.Dec.{eqb};
 ghost use lib.ListN.{length};
-ghost use Rattle.params.specs.Parameters.{fromHeader};
-ghost use Rattle.job.specs.Job.{headSize};
+ghost use Rattle.job.specs.Job.{headSize, termsIn};
 ghost use Rattle.job.specs.Chunks.{openedBy, begun, taken, fedChunk, finished, isSettled};
 ghost use Rattle.job.specs.Line.{lineOf, stored, decimal};
 ghost use Rattle.job.specs.Private.{longer};
-ghost use Rattle.reader_model.specs.Model.{isStopped};
 use answer::Answer;
-use params::Params;
+use params::Terms;
 use reader_model::Reader;
-use reader_model::Stage;
 
 // The bytes of a job's head, parameters and context, and the place of the last.
 const HEAD_SIZE: usize = params::HEADER_SIZE + 32;
@@ -29,25 +26,21 @@ pub struct Job {
     pub reader: Reader,
 }
 
-// The parameters in a head.
-fn parameters_of(head: [u8; HEAD_SIZE]) -> Params
-    ensures { λ r. ⌜ r ≡ fromHeader head ⌝ }
+// What a head asks for.
+fn terms_in(head: [u8; HEAD_SIZE]) -> Terms
+    ensures { λ r. ⌜ r ≡ termsIn head ⌝ }
 {
-    Params {
-        n: head[0],
-        b: head[1],
-        k: head[2],
-        q: head[3],
-    }
+    let mut context = [0u8; 32];
+    buffer::put(&mut context, 0, &head[params::HEADER_SIZE..]);
+    let params = params::from_header(&head);
+    Terms { params, context }
 }
 
 // The reader that a whole head opens.
 fn open_reader(head: [u8; HEAD_SIZE]) -> Reader
     ensures { λ r. ⌜ r ≡ openedBy head ⌝ }
 {
-    let mut context = [0u8; 32];
-    buffer::put(&mut context, 0, &head[params::HEADER_SIZE..]);
-    let opened = reader::open(parameters_of(head), context);
+    let opened = reader::open(terms_in(head));
     opened.state
 }
 
@@ -96,14 +89,7 @@ fn proof_bytes(state: Job, bytes: &[u8]) -> Job
 pub fn begin() -> Job
     ensures { λ r. ⌜ r ≡ begun ⌝ }
 {
-    let none = Params {
-        n: 0,
-        b: 0,
-        k: 0,
-        q: 0,
-    };
-    let opened = reader::open(none, [0u8; 32]);
-    let reader = opened.state;
+    let reader = reader::closed();
     Job {
         got: 0,
         head: [0u8; HEAD_SIZE],
@@ -141,33 +127,14 @@ pub fn finish(state: Job) -> Answer
         };
     }
     let head = state.head;
-    if params::is_valid(parameters_of(head)) {
+    let params = params::from_header(&head);
+    let number = params::admission(params);
+    if number == answer::OPEN {
         let last = state.reader;
         let end = reader::end(last);
         return end.answer;
     }
-    Answer {
-        number: answer::PARAMETERS_NOT_VALID,
-        place: 0,
-    }
-}
-
-fn is_stopped(stage: Stage) -> bool
-    ensures { λ r. ⌜ r ≡ isStopped stage ⌝ }
-{
-    match stage {
-        Stage::ParameterCount => false,
-        Stage::Parameters => false,
-        Stage::RootCount => false,
-        Stage::Root => false,
-        Stage::CoefficientCount => false,
-        Stage::Coefficient => false,
-        Stage::QueryCount => false,
-        Stage::Value => false,
-        Stage::Sibling => false,
-        Stage::Tail => false,
-        Stage::Stopped => true,
-    }
+    Answer { number, place: 0 }
 }
 
 // Whether no byte more can change the job's answer, so that the rest need not be read.
@@ -179,7 +146,7 @@ pub fn settled(state: Job) -> bool
     let core = last.core;
     let stage = core.stage;
     if HEAD_SIZE <= got {
-        is_stopped(stage)
+        reader::is_stopped(stage)
     } else {
         false
     }
@@ -204,14 +171,10 @@ fn put(line: Text, part: &[u8]) -> Text
 {
     let mut bytes = line.bytes;
     let at = line.length;
-    let mut i = 0;
-    while i < part.len() {
-        bytes[at + i] = part[i];
-        i += 1;
-    }
+    buffer::put(&mut bytes, at, part);
     Text {
         bytes,
-        length: at + i,
+        length: at + part.len(),
     }
 }
 

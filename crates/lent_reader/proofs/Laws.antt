@@ -1,26 +1,26 @@
 -- What is known of a callee's result, put into the next callee's; and a piece that is held. Assumes nothing.
-use Prim.Native.Nat.{ℕ, zero, suc, _+_, _<_}
+use Prim.Native.Nat.{ℕ, zero, suc, _+_, _≤_, _<_}
 use native.Mathlib.Omega.{arith}
 use mathlib.Core.Bool.{Bool, true, false, cond}
 use mathlib.Core.List.{List, [], _∷_, _++_}
 use mathlib.Core.Path.{_≡_, refl, sym, ap, ap₂, _∙_}
-use lib.ListN.{getD, set, length, drop}
-use lib.Seq.{sets}
-use lib.Dec.{ltb, eqb}
-use borrow.Author.Tests.{ltb-true, eqb-true}
+use lib.ListN.{getD, set, length, take, drop, length-drop}
+use lib.Seq.{take-all}
+use lib.Dec.{eqb}
+use borrow.Author.Tests.{ltb-true, eqb-true, ne-eqb}
 use Rattle.sha256.specs.Sha256.{sha256}
 use Rattle.answer.specs.declared.Answer.{Answer}
-use Rattle.answer.specs.Table.{answered, open-so-far}
+use Rattle.answer.specs.Table.{open-so-far}
+use Rattle.params.specs.Parameters.{headerSize, header, fromHeader}
 use Rattle.reader_model.specs.declared.Stage.{Stage}
 use Rattle.reader_model.specs.declared.Stage.the-variants.{ParameterCount, Parameters, RootCount, Root, CoefficientCount, Coefficient, QueryCount, Value, Sibling, Tail, Stopped}
 use Rattle.reader_model.specs.declared.Core.{Core}
-use Rattle.reader_model.specs.declared.Hold.{Hold}
 use Rattle.reader_model.specs.declared.Tables.{Tables}
 use Rattle.reader_model.specs.declared.Reader.{Reader}
 use Rattle.reader_model.specs.declared.Reply.{Reply}
 use Rattle.reader_model.specs.State.{itemLength, whole, withItem}
-use Rattle.reader_model.specs.Model.{Buffer, buffer, holding, isStopped, openAnswer, answerOf, replied, fed, pieced, ended}
-use Rattle.reader.proofs.Fold.{holding-inside, holding-not, run, fed-inside}
+use Rattle.reader_model.specs.Model.{endsInside, filledItem, isStopped, openAnswer, answerOf, replied, fed, pieced, ended}
+use Rattle.reader.proofs.Fold.{filled-inside, filled-not, run, fed-inside}
 use Rattle.lent_reader.specs.declared.parts.Front.{Front}
 use Rattle.lent_reader.specs.Private.{frontOf}
 use Rattle.lent_reader.specs.Held.{Small, Held, Outcome, numberOf, stageOf, small, smallOf, coreOf, held, heldOf, readerOf, outcome, outcomeOf}
@@ -57,19 +57,33 @@ spelt (x ∷ xs) = ap (λ l. x ∷ l) (spelt xs)
 spelt-by : (n : ℕ) (xs : List ℕ) → length xs ≡ n → xs ≡ elements n (λ i. getD xs i 0)
 spelt-by n xs e = spelt xs ∙ ap (λ k. elements k (λ i. getD xs i 0)) e
 
--- The words: six numbers, then the leaf's values.
+split-at : (k : ℕ) (xs : List ℕ) → k ≤ length xs → xs ≡ elements k (λ i. getD xs i 0) ++ drop k xs
+split-at zero xs h = refl
+split-at (suc k) [] h = absurd (omega arith)
+split-at (suc k) (x ∷ xs) h = ap (λ l. x ∷ l) (split-at k xs (omega arith))
+
+-- The numbers of one byte: six, then the parameter bytes.
+pub parameters-at : (ms : List ℕ) → length ms ≡ 6 + headerSize → fromHeader (take headerSize (drop 6 ms)) ≡ fromHeader (drop 6 ms)
+parameters-at ms e = ap (λ l. fromHeader l) (take-all headerSize (drop 6 ms) (omega (arith, length-drop 6 ms)))
+
+header-back : (bytes : List ℕ) → length bytes ≡ headerSize → header (fromHeader bytes) ≡ bytes
+header-back bytes e = sym (spelt-by headerSize bytes e)
+
+u8s-back : (ms : List ℕ) {m : ℕ} → length ms ≡ 6 + headerSize → m ≡ getD ms 0 0
+    → ms ≡ m ∷ getD ms 1 0 ∷ getD ms 2 0 ∷ getD ms 3 0 ∷ getD ms 4 0 ∷ getD ms 5 0 ∷ header (fromHeader (drop 6 ms))
+u8s-back ms e back =
+    split-at 6 ms (omega arith)
+    ∙ ap₂ (λ (m : ℕ) (l : List ℕ). m ∷ getD ms 1 0 ∷ getD ms 2 0 ∷ getD ms 3 0 ∷ getD ms 4 0 ∷ getD ms 5 0 ∷ l) (sym back)
+    (sym (header-back (drop 6 ms) (length-drop 6 ms ∙ omega arith)))
+
+-- Those of four bytes: six, then the leaf's values.
 pub last-four : (ws : List ℕ) → length ws ≡ 10 → getD ws 6 0 ∷ getD ws 7 0 ∷ getD ws 8 0 ∷ getD ws 9 0 ∷ [] ≡ drop 6 ws
 last-four ws e = sym (ap (drop 6) (spelt-by 10 ws e))
 
-first-six : (ws : List ℕ) → length ws ≡ 10
-    → ws ≡ getD ws 0 0 ∷ getD ws 1 0 ∷ getD ws 2 0 ∷ getD ws 3 0 ∷ getD ws 4 0 ∷ getD ws 5 0 ∷ drop 6 ws
-first-six ws e =
-    spelt-by 10 ws e ∙ ap (λ l. getD ws 0 0 ∷ getD ws 1 0 ∷ getD ws 2 0 ∷ getD ws 3 0 ∷ getD ws 4 0 ∷ getD ws 5 0 ∷ l) (last-four ws e)
-
-pub joined-words : (front values : List ℕ) → length front ≡ 6 → length values ≡ 4
+pub joined-u32s : (front values : List ℕ) → length front ≡ 6 → length values ≡ 4
     → getD front 0 0 ∷ getD front 1 0 ∷ getD front 2 0 ∷ getD front 3 0 ∷ getD front 4 0 ∷ getD front 5 0 ∷ getD values 0 0 ∷ getD values 1 0 ∷ getD values 2 0 ∷ getD values 3 0 ∷ []
     ≡ front ++ values
-joined-words front values l k = sym (ap₂ (λ (xs ys : List ℕ). xs ++ ys) (spelt-by 6 front l) (spelt-by 4 values k))
+joined-u32s front values l k = sym (ap₂ (λ (xs ys : List ℕ). xs ++ ys) (spelt-by 6 front l) (spelt-by 4 values k))
 
 -- A stage whose item has bytes is not the stopped one, and has one number only.
 pick : (m k : ℕ) (s rest : Stage) (test : Bool) → eqb m k ≡ test → numberOf s ≡ k → (0 < itemLength rest → numberOf rest ≡ m) → 0 < itemLength (cond test s rest) → numberOf (cond test s rest) ≡ m
@@ -92,17 +106,7 @@ named-back m =
     (λ h. absurd (omega arith)))))))))))
 
 not-stopped : (stage : Stage) → 0 < itemLength stage → isStopped stage ≡ false
-not-stopped ParameterCount h = refl
-not-stopped Parameters h = refl
-not-stopped RootCount h = refl
-not-stopped Root h = refl
-not-stopped CoefficientCount h = refl
-not-stopped Coefficient h = refl
-not-stopped QueryCount h = refl
-not-stopped Value h = refl
-not-stopped Sibling h = refl
-not-stopped Tail h = refl
-not-stopped Stopped h = absurd (omega arith)
+not-stopped stage h = ne-eqb (itemLength stage) 0 (λ e. absurd (omega arith))
 
 -- A piece that ends inside the item, by the reader's model.
 abbrev replying : Answer → Reader → Reply
@@ -121,56 +125,35 @@ assembled : {a a′ : Answer} {m m′ w w′ k k′ i i′ : List ℕ} (node tra
     → _≡_ {A = Outcome} (record { answer = a; held = record { small = small m w k i node transcript; tables = t } }) (record { answer = a′; held = record { small = small m′ w′ k′ i′ node transcript; tables = t } })
 assembled node transcript t ea em ew ek ei = rw (ea, em, ew, ek, ei)
 
-module _ (marks words counts item node transcript roots challenges coefficients bytes : List ℕ) {front : Front} {b : Hold} {after : List ℕ} (front-is : front ≡ frontOf marks words counts)
-    (told : buffer b after ≡ holding (front .stage) (front .start) (front .fill) item bytes) where
-  abbrev test : Bool
-  test = ltb (getD counts 0 0 + length bytes) (itemLength (stageOf (getD marks 0 0)))
+module _ (u8s u32s sizes item node transcript roots challenges coefficients bytes : List ℕ) {front : Front} {inside : Bool} {after : List ℕ} (front-is : front ≡ frontOf u8s u32s sizes)
+    (inside-is : inside ≡ endsInside (front .stage) (front .fill) bytes) (after-is : after ≡ filledItem (front .stage) (front .fill) item bytes) where
+  -- A piece that does not end inside the item leaves it alone, and is read.
+  pub read-whole : {x : Outcome} → inside ≡ false
+      → x ≡ outcomeOf (pieced sha256 (readerOf (held u8s u32s sizes after node transcript roots challenges coefficients)) bytes)
+      → x ≡ outcomeOf (pieced sha256 (readerOf (held u8s u32s sizes item node transcript roots challenges coefficients)) bytes)
+  read-whole outside e =
+      e ∙ ap (λ i. outcomeOf (pieced sha256 (readerOf (held u8s u32s sizes i node transcript roots challenges coefficients)) bytes))
+      (after-is ∙ sym (filled-not (front .stage) (front .fill) item bytes (sym inside-is ∙ outside)))
 
-  holds : buffer b after ≡ holding (stageOf (getD marks 0 0)) (getD words 0 0) (getD counts 0 0) item bytes
-  holds = told ∙ ap (λ (f : Front). holding (f .stage) (f .start) (f .fill) item bytes) front-is
+  -- A piece that does is held: of all that the caller holds, the item and its fill alone change.
+  abbrev before : Reader
+  before = readerOf (held u8s u32s sizes item node transcript roots challenges coefficients)
 
-  held-is : test ≡ true → buffer b after ≡ record { answer = openAnswer open-so-far (getD words 0 0) (getD counts 0 0 + length bytes); fill = getD counts 0 0 + length bytes; item = sets item (getD counts 0 0) bytes }
-  held-is e = holds ∙ sym (holding-inside (stageOf (getD marks 0 0)) (getD words 0 0) (getD counts 0 0) item bytes e)
-
-  not-held : test ≡ false → buffer b after ≡ record { answer = answered open-so-far 0; fill = getD counts 0 0; item = item }
-  not-held e = holds ∙ sym (holding-not (stageOf (getD marks 0 0)) (getD words 0 0) (getD counts 0 0) item bytes e)
-
-  fill-is : front .fill ≡ getD counts 0 0
-  fill-is = ap (λ (f : Front). f .fill) front-is
-
-  -- A piece that is not held leaves the item alone, and is read.
-  nothing-held : (bs : List ℕ) → getD counts 0 0 + length bs ≡ getD counts 0 0 → sets item (getD counts 0 0) bs ≡ item
-  nothing-held [] e = refl
-  nothing-held (x ∷ bs) e = absurd (omega arith)
-
-  left-alone : (t : Bool) → test ≡ t → b .fill ≡ front .fill → after ≡ item
-  left-alone false e same = ap (λ (x : Buffer). x .item) (not-held e)
-  left-alone true e same = ap (λ (x : Buffer). x .item) (held-is e) ∙ nothing-held bytes (sym (ap (λ (x : Buffer). x .fill) (held-is e)) ∙ same ∙ fill-is)
-
-  pub read-whole : {x : Outcome} → b .fill ≡ front .fill
-      → x ≡ outcomeOf (pieced sha256 (readerOf (held marks words counts after node transcript roots challenges coefficients)) bytes)
-      → x ≡ outcomeOf (pieced sha256 (readerOf (held marks words counts item node transcript roots challenges coefficients)) bytes)
-  read-whole same e =
-      e ∙ ap (λ i. outcomeOf (pieced sha256 (readerOf (held marks words counts i node transcript roots challenges coefficients)) bytes)) (left-alone test refl same)
-
-  -- A piece that is held: of all that the caller holds, the item and its fill alone change.
-  abbrev now : Reader
-  now = readerOf (held marks words counts item node transcript roots challenges coefficients)
-
-  pub held-piece : length marks ≡ 10 → length words ≡ 10 → length counts ≡ 2 → (b .fill ≡ front .fill → ⊥)
-      → outcome (b .answer) marks words (set counts 0 (b .fill)) after node transcript roots challenges coefficients ≡ outcomeOf (pieced sha256 now bytes)
+  pub held-piece : {a : Answer} → length u8s ≡ 6 + headerSize → length u32s ≡ 10 → length sizes ≡ 2 → inside ≡ true
+      → a ≡ openAnswer open-so-far (front .start) (front .fill + length bytes)
+      → outcome a u8s u32s (set sizes 0 (front .fill + length bytes)) after node transcript roots challenges coefficients ≡ outcomeOf (pieced sha256 before bytes)
   unfolding outcomeOf heldOf smallOf coreOf
-  held-piece ten all two differs = by test refl
-    where
-      by : (t : Bool) → test ≡ t → outcome (b .answer) marks words (set counts 0 (b .fill)) after node transcript roots challenges coefficients ≡ outcomeOf (pieced sha256 now bytes)
-      by false e = absurd (differs (ap (λ (x : Buffer). x .fill) (not-held e) ∙ sym fill-is))
-      by true e =
-          let inside : getD counts 0 0 + length bytes < itemLength (stageOf (getD marks 0 0)) = ltb-true _ _ e in
-          let back : numberOf (stageOf (getD marks 0 0)) ≡ getD marks 0 0 = named-back (getD marks 0 0) (omega arith) in
-          assembled node transcript (now .tables)
-          (ap (λ (x : Buffer). x .answer) (held-is e))
-          (spelt-by 10 marks ten ∙ ap (λ m. m ∷ elements 9 (λ i. getD marks (suc i) 0)) (sym back))
-          (first-six words all)
-          (ap (λ l. set l 0 (b .fill)) (spelt-by 2 counts two) ∙ ap (λ k. k ∷ getD counts 1 0 ∷ []) (ap (λ (x : Buffer). x .fill) (held-is e)))
-          (ap (λ (x : Buffer). x .item) (held-is e))
-          ∙ ap outcomeOf (sym (pieced-inside now bytes inside))
+  held-piece ten all two ends told =
+      let e : endsInside (stageOf (getD u8s 0 0)) (getD sizes 0 0) bytes ≡ true =
+      ap (λ (f : Front). endsInside (f .stage) (f .fill) bytes) (sym front-is) ∙ (sym inside-is ∙ ends) in
+      let within : getD sizes 0 0 + length bytes < itemLength (stageOf (getD u8s 0 0)) = ltb-true _ _ e in
+      assembled node transcript (before .tables)
+      (told ∙ ap (λ (f : Front). openAnswer open-so-far (f .start) (f .fill + length bytes)) front-is)
+      (u8s-back u8s ten (named-back (getD u8s 0 0) (omega arith)))
+      (split-at 6 u32s (omega arith))
+      (ap (λ l. set l 0 (front .fill + length bytes)) (spelt-by 2 sizes two)
+      ∙ ap (λ (f : Front). (f .fill + length bytes) ∷ getD sizes 1 0 ∷ []) front-is)
+      (after-is
+      ∙ (ap (λ (f : Front). filledItem (f .stage) (f .fill) item bytes) front-is
+      ∙ sym (filled-inside (stageOf (getD u8s 0 0)) (getD sizes 0 0) item bytes e)))
+      ∙ ap outcomeOf (sym (pieced-inside before bytes within))

@@ -4,8 +4,8 @@ use mathlib.Core.Bool.{true}
 use mathlib.Core.List.{List, [], _∷_}
 use mathlib.Core.Path.{_≡_, refl, ap, _∙_}
 use Rattle.message.specs.Message.{Digest}
-use Rattle.params.specs.declared.Params.{Params}
-use Rattle.params.specs.Parameters.{Valid}
+use Rattle.params.specs.declared.Terms.{Terms}
+use Rattle.params.specs.Admission.{Admitted}
 use Rattle.fri.specs.Judge.{verdict}
 use Rattle.answer.specs.Table.{answered, open-so-far}
 use Rattle.calls.specs.Calls.{Call, piece, end, endsOnce, joined, answers, given, lastOr, lastGiven}
@@ -46,13 +46,13 @@ pub answered-by : {x : Outcome} (y : Reply) → x ≡ outcomeOf y → x .answer 
 unfolding outcomeOf
 answered-by y e = ap (λ (o : Outcome). o .answer) e
 
-module _ (hash : List ℕ → Digest) (p : Params) (context : List ℕ) where
-  after : (x : Reader) (cs : List Call) → answers (boundary hash p context) (heldOf x) cs ≡ answers (reader hash p context) (readerOf (heldOf x)) cs
-      → answers (boundary hash p context) (heldOf x) cs ≡ answers (reader hash p context) x cs
-  after x cs e = e ∙ ap (λ r. answers (reader hash p context) r cs) (round-trip x)
+module _ (hash : List ℕ → Digest) (a : Terms) where
+  after : (x : Reader) (cs : List Call) → answers (boundary hash a) (heldOf x) cs ≡ answers (reader hash a) (readerOf (heldOf x)) cs
+      → answers (boundary hash a) (heldOf x) cs ≡ answers (reader hash a) x cs
+  after x cs e = e ∙ ap (λ r. answers (reader hash a) r cs) (round-trip x)
 
   -- From any state on, one that no call made too, the answers are the reader's from the state that it stands for.
-  pub from-any-state : (h : Held) (cs : List Call) → answers (boundary hash p context) h cs ≡ answers (reader hash p context) (readerOf h) cs
+  pub from-any-state : (h : Held) (cs : List Call) → answers (boundary hash a) h cs ≡ answers (reader hash a) (readerOf h) cs
   unfolding outcomeOf
   from-any-state h [] = refl
   from-any-state h (piece bytes ∷ cs) =
@@ -63,12 +63,12 @@ module _ (hash : List ℕ → Digest) (p : Params) (context : List ℕ) where
       ap (λ more. reply .answer ∷ more) (after (reply .state) cs (from-any-state (heldOf (reply .state)) cs))
 
   -- From the state that the opening left on.
-  pub through-the-boundary : (cs : List Call) → given (boundary hash p context) cs ≡ given (reader hash p context) cs
+  pub through-the-boundary : (cs : List Call) → given (boundary hash a) cs ≡ given (reader hash a) cs
   unfolding outcomeOf
   through-the-boundary cs =
-      let first = opened hash p context .state in
+      let first = opened hash a .state in
       after first cs (from-any-state (heldOf first) cs)
 
   -- So the last answer, to an end call, is the verdict on the bytes joined.
-  pub verdict-through : Valid p → (cs : List Call) → endsOnce cs ≡ true → lastGiven (boundary hash p context) cs ≡ verdict hash p context (joined cs)
-  verdict-through v cs e = ap (lastOr (answered open-so-far 0)) (through-the-boundary cs) ∙ claim .opened hash p context cs v .verdicts e
+  pub verdict-through : Admitted a → (cs : List Call) → endsOnce cs ≡ true → lastGiven (boundary hash a) cs ≡ verdict hash a (joined cs)
+  verdict-through v cs e = ap (lastOr (answered open-so-far 0)) (through-the-boundary cs) ∙ claim .opened hash a cs v .verdicts e

@@ -7,7 +7,8 @@ use lib.ListN.{getD, drop}
 use lib.Dec.{eqb}
 use Rattle.message.specs.Message.{Digest}
 use Rattle.answer.specs.declared.Answer.{Answer}
-use Rattle.params.specs.declared.Params.{Params}
+use Rattle.params.specs.declared.Terms.{Terms}
+use Rattle.params.specs.Parameters.{header, fromHeader}
 use Rattle.calls.specs.Calls.{Reader as Calls}
 use Rattle.reader_model.specs.declared.Stage.{Stage}
 use Rattle.reader_model.specs.declared.Stage.the-variants.{ParameterCount, Parameters, RootCount, Root, CoefficientCount, Coefficient, QueryCount, Value, Sibling, Tail, Stopped}
@@ -45,21 +46,21 @@ stageOf number =
 
 -- The small part: its numbers of one, four and eight bytes, and its three runs of 32 bytes.
 pub record Small : Type 0 where
-  pub marks : List ℕ
-  pub words : List ℕ
-  pub counts : List ℕ
+  pub u8s : List ℕ
+  pub u32s : List ℕ
+  pub sizes : List ℕ
   pub item : List ℕ
   pub node : List ℕ
   pub transcript : List ℕ
 
 abbrev pub small : List ℕ → List ℕ → List ℕ → List ℕ → List ℕ → List ℕ → Small
-small marks words counts item node transcript = record { marks = marks; words = words; counts = counts; item = item; node = node; transcript = transcript }
+small u8s u32s sizes item node transcript = record { u8s = u8s; u32s = u32s; sizes = sizes; item = item; node = node; transcript = transcript }
 
 unfoldable pub smallOf : Core → Small
 smallOf c = record {
-  marks = numberOf (c .stage) ∷ c .params .n ∷ c .params .b ∷ c .params .k ∷ c .params .q ∷ c .cursor .query ∷ c .cursor .layer ∷ c .cursor .value ∷ c .cursor .height ∷ c .answer .number ∷ [];
-  words = c .cursor .start ∷ c .walk .index ∷ c .walk .position ∷ c .walk .scale ∷ c .walk .folded ∷ c .answer .place ∷ c .walk .values;
-  counts = c .fill ∷ c .cursor .coefficient ∷ [];
+  u8s = numberOf (c .stage) ∷ c .cursor .query ∷ c .cursor .layer ∷ c .cursor .value ∷ c .cursor .height ∷ c .answer .number ∷ header (c .params);
+  u32s = c .cursor .start ∷ c .walk .index ∷ c .walk .position ∷ c .walk .scale ∷ c .walk .folded ∷ c .answer .place ∷ c .walk .values;
+  sizes = c .fill ∷ c .cursor .coefficient ∷ [];
   item = c .item;
   node = c .walk .node;
   transcript = c .transcript;
@@ -67,25 +68,25 @@ smallOf c = record {
 
 unfoldable pub coreOf : Small → Core
 coreOf s = record {
-  stage = stageOf (getD (s .marks) 0 0);
-  answer = record { number = getD (s .marks) 9 0; place = getD (s .words) 5 0 };
-  fill = getD (s .counts) 0 0;
+  stage = stageOf (getD (s .u8s) 0 0);
+  answer = record { number = getD (s .u8s) 5 0; place = getD (s .u32s) 5 0 };
+  fill = getD (s .sizes) 0 0;
   item = s .item;
-  params = record { n = getD (s .marks) 1 0; b = getD (s .marks) 2 0; k = getD (s .marks) 3 0; q = getD (s .marks) 4 0 };
+  params = fromHeader (drop 6 (s .u8s));
   cursor = record {
-    start = getD (s .words) 0 0;
-    coefficient = getD (s .counts) 1 0;
-    query = getD (s .marks) 5 0;
-    layer = getD (s .marks) 6 0;
-    value = getD (s .marks) 7 0;
-    height = getD (s .marks) 8 0;
+    start = getD (s .u32s) 0 0;
+    coefficient = getD (s .sizes) 1 0;
+    query = getD (s .u8s) 1 0;
+    layer = getD (s .u8s) 2 0;
+    value = getD (s .u8s) 3 0;
+    height = getD (s .u8s) 4 0;
   };
   walk = record {
-    index = getD (s .words) 1 0;
-    position = getD (s .words) 2 0;
-    values = drop 6 (s .words);
-    scale = getD (s .words) 3 0;
-    folded = getD (s .words) 4 0;
+    index = getD (s .u32s) 1 0;
+    position = getD (s .u32s) 2 0;
+    values = drop 6 (s .u32s);
+    scale = getD (s .u32s) 3 0;
+    folded = getD (s .u32s) 4 0;
     node = s .node;
   };
   transcript = s .transcript;
@@ -97,8 +98,8 @@ pub record Held : Type 0 where
   pub tables : Tables
 
 abbrev pub held : List ℕ → List ℕ → List ℕ → List ℕ → List ℕ → List ℕ → List ℕ → List ℕ → List ℕ → Held
-held marks words counts item node transcript roots challenges coefficients = record {
-  small = small marks words counts item node transcript;
+held u8s u32s sizes item node transcript roots challenges coefficients = record {
+  small = small u8s u32s sizes item node transcript;
   tables = record { roots = roots; challenges = challenges; coefficients = coefficients };
 }
 
@@ -115,18 +116,18 @@ pub record Outcome : Type 0 where
 
 -- Of what is returned and what is left in the arrays; and of the reader's reply.
 abbrev pub outcome : Answer → List ℕ → List ℕ → List ℕ → List ℕ → List ℕ → List ℕ → List ℕ → List ℕ → List ℕ → Outcome
-outcome answer marks words counts item node transcript roots challenges coefficients = record {
+outcome answer u8s u32s sizes item node transcript roots challenges coefficients = record {
   answer = answer;
-  held = held marks words counts item node transcript roots challenges coefficients;
+  held = held u8s u32s sizes item node transcript roots challenges coefficients;
 }
 
 unfoldable pub outcomeOf : Reply → Outcome
 outcomeOf r = record { answer = r .answer; held = heldOf (r .state) }
 
 -- The reader as a caller has it, whose states are the caller's: the calls equal these, each by its contract.
-abbrev pub boundary : (List ℕ → Digest) → Params → List ℕ → Calls Held
-boundary hash p context = record {
-  opened = outcomeOf (opened hash p context) .held;
+abbrev pub boundary : (List ℕ → Digest) → Terms → Calls Held
+boundary hash a = record {
+  opened = outcomeOf (opened hash a) .held;
   pieceNext = λ h bytes. outcomeOf (pieced hash (readerOf h) bytes) .held;
   pieceAnswer = λ h bytes. outcomeOf (pieced hash (readerOf h) bytes) .answer;
   endNext = λ h. outcomeOf (ended (readerOf h)) .held;

@@ -7,4 +7,4 @@ use Rattle.lent_reader.specs.Held.{stageOf}
 
 -- What a piece that ends inside the current item needs to know.
 abbrev pub frontOf : List ℕ → List ℕ → List ℕ → Front
-frontOf marks words counts = record { stage = stageOf (getD marks 0 0); start = getD words 0 0; fill = getD counts 0 0 }
+frontOf u8s u32s sizes = record { stage = stageOf (getD u8s 0 0); start = getD u32s 0 0; fill = getD sizes 0 0 }

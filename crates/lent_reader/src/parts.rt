@@ -1,15 +1,21 @@
-// The small part of the state as arrays, by the width of its numbers. marks: the stage's number, the parameters, the cursor's query, layer, value and
-// height, the answer's number. words: the cursor's start, the walk's index, position, scale and folded sum, the answer's place, the leaf's values. counts: the fill, and the cursor's coefficient.
+// The small part of the state as arrays, by the width of its numbers. u8s: the stage's number, the cursor's query, layer, value and height, the answer's
+// number, the parameter bytes. u32s: the cursor's start, the walk's index, position, scale and folded sum, the answer's place, the leaf's values. sizes:
+// the fill, and the cursor's coefficient.
 ghost use mathlib.Core.List.{_++_};
 ghost use mathlib.Core.Path.{_≡_};
+ghost use Prim.Native.Nat.{_+_};
 ghost use lib.ListN.{length};
+ghost use Rattle.params.specs.Parameters.{headerSize};
 ghost use Rattle.lent_reader.specs.Held.{numberOf, stageOf, coreOf, small, smallOf};
 ghost use Rattle.lent_reader.specs.Private.{frontOf};
+use crate::SIZES;
+use crate::U8S;
+use crate::U32S;
 use answer::Answer;
-use params::Params;
 use reader_model::Core;
 use reader_model::Cursor;
 use reader_model::Stage;
+use reader_model::VALUES;
 use reader_model::Walk;
 
 fn number_of(stage: Stage) -> u8
@@ -57,65 +63,61 @@ pub struct Front {
 }
 
 // The contract tells the arrays' lengths too: a caller to whom they are lent has these from nowhere else.
-pub fn front_of(marks: [u8; 10], words: [u32; 10], counts: [usize; 2]) -> Front
-    ensures { λ r. ⌜ (r ≡ frontOf marks words counts) × ((length marks ≡ 10) × ((length words ≡ 10) × (length counts ≡ 2))) ⌝ }
+pub fn front_of(u8s: [u8; U8S], u32s: [u32; U32S], sizes: [usize; SIZES]) -> Front
+    ensures { λ r. ⌜ (r ≡ frontOf u8s u32s sizes) × ((length u8s ≡ 6 + headerSize) × ((length u32s ≡ 10) × (length sizes ≡ 2))) ⌝ }
 {
-    let stage = stage_of(marks[0]);
+    let stage = stage_of(u8s[0]);
     Front {
         stage: stage,
-        start: words[0],
-        fill: counts[0],
+        start: u32s[0],
+        fill: sizes[0],
     }
 }
 
 pub fn core_of(
-    marks: [u8; 10],
-    words: [u32; 10],
-    counts: [usize; 2],
+    u8s: [u8; U8S],
+    u32s: [u32; U32S],
+    sizes: [usize; SIZES],
     item: [u8; 32],
     node: [u8; 32],
     transcript: [u8; 32],
 ) -> Core
-    ensures { λ r. ⌜ r ≡ coreOf (small marks words counts item node transcript) ⌝ }
+    ensures { λ r. ⌜ r ≡ coreOf (small u8s u32s sizes item node transcript) ⌝ }
 {
-    let stage = stage_of(marks[0]);
-    let values = [words[6], words[7], words[8], words[9]];
+    let stage = stage_of(u8s[0]);
+    let params = params::from_header(&u8s[6..]);
+    let values = [u32s[6], u32s[7], u32s[8], u32s[9]];
     Core {
         stage: stage,
         answer: Answer {
-            number: marks[9],
-            place: words[5],
+            number: u8s[5],
+            place: u32s[5],
         },
-        fill: counts[0],
+        fill: sizes[0],
         item: item,
-        params: Params {
-            n: marks[1],
-            b: marks[2],
-            k: marks[3],
-            q: marks[4],
-        },
+        params: params,
         cursor: Cursor {
-            start: words[0],
-            coefficient: counts[1],
-            query: marks[5],
-            layer: marks[6],
-            value: marks[7],
-            height: marks[8],
+            start: u32s[0],
+            coefficient: sizes[1],
+            query: u8s[1],
+            layer: u8s[2],
+            value: u8s[3],
+            height: u8s[4],
         },
         walk: Walk {
-            index: words[1],
-            position: words[2],
+            index: u32s[1],
+            position: u32s[2],
             values: values,
-            scale: words[3],
-            folded: words[4],
+            scale: u32s[3],
+            folded: u32s[4],
             node: node,
         },
         transcript: transcript,
     }
 }
 
-// The words: six numbers, then the leaf's values.
-fn joined(front: [u32; 6], values: [u32; 4]) -> [u32; 10]
+// The u32s: six numbers, then the leaf's values.
+fn joined(front: [u32; 6], values: [u32; VALUES]) -> [u32; U32S]
     ensures { λ r. ⌜ r ≡ front ++ values ⌝ }
 {
     [
@@ -135,29 +137,27 @@ fn joined(front: [u32; 6], values: [u32; 4]) -> [u32; 10]
 // Puts the small part into the arrays, whatever they held.
 pub fn keep(
     c: Core,
-    marks: &mut [u8; 10],
-    words: &mut [u32; 10],
-    counts: &mut [usize; 2],
+    u8s: &mut [u8; U8S],
+    u32s: &mut [u32; U32S],
+    sizes: &mut [usize; SIZES],
     item: &mut [u8; 32],
     node: &mut [u8; 32],
     transcript: &mut [u8; 32],
 )
-    ensures { λ _. ⌜ small (now (marks .exit)) (now (words .exit)) (now (counts .exit)) (now (item .exit)) (now (node .exit)) (now (transcript .exit)) ≡ smallOf c ⌝ }
+    ensures { λ _. ⌜ small (now (u8s .exit)) (now (u32s .exit)) (now (sizes .exit)) (now (item .exit)) (now (node .exit)) (now (transcript .exit)) ≡ smallOf c ⌝ }
 {
     let stage = c.stage;
     let number = number_of(stage);
-    *marks = [
-        number,
-        c.params.n,
-        c.params.b,
-        c.params.k,
-        c.params.q,
-        c.cursor.query,
-        c.cursor.layer,
-        c.cursor.value,
-        c.cursor.height,
-        c.answer.number,
-    ];
+    let header = params::header(c.params);
+    let mut all = [0u8; U8S];
+    all[0] = number;
+    all[1] = c.cursor.query;
+    all[2] = c.cursor.layer;
+    all[3] = c.cursor.value;
+    all[4] = c.cursor.height;
+    all[5] = c.answer.number;
+    buffer::put(&mut all, 6, &header);
+    *u8s = all;
     let walk = c.walk;
     let values = walk.values;
     let front = [
@@ -168,8 +168,8 @@ pub fn keep(
         c.walk.folded,
         c.answer.place,
     ];
-    *words = joined(front, values);
-    *counts = [c.fill, c.cursor.coefficient];
+    *u32s = joined(front, values);
+    *sizes = [c.fill, c.cursor.coefficient];
     let last = c.item;
     *item = last;
     let above = walk.node;

@@ -5,15 +5,16 @@ use mathlib.Core.List.{List, []}
 use mathlib.Core.Path.{_≡_, refl, sym, _∙_}
 use native.Mathlib.Nat.{add-sub-cancel-left, mul-le-mul-right, suc-mul}
 use native.Mathlib.Omega.{arith}
-use borrow.Author.Tests.{not-true, not-false, ltb-true, eqb-true, lt-ltb, eq-eqb}
+use borrow.Author.Tests.{not-true, not-false, ltb-true, eqb-true, lt-ltb, eq-eqb, ne-eqb}
 use lib.Dec.{eqb, ltb}
-use lib.ListN.{length, take, drop, length-drop}
-use lib.Seq.{length-take-le}
-use Rattle.answer.specs.Table.{answered, open-so-far, parameters-not-valid, no-such-opening}
+use lib.ListN.{length, take, drop}
+use Rattle.answer.specs.Table.{answered, open-so-far, no-such-opening}
 use Rattle.message.specs.Bytes.{part}
 use Rattle.params.specs.declared.Params.{Params}
-use Rattle.params.specs.Parameters.{Valid, valid, openingLength, queryLength, openingOffset, fileLength, ifValid}
-use Rattle.params.proofs.ParameterLaws.{valid-facts}
+use Rattle.params.specs.Admission.{admission, admits}
+use Rattle.params.specs.Parameters.{Valid, openingLength, queryLength, openingOffset, fileLength, ifValid}
+use Rattle.params.proofs.ParameterLaws.{from-valid}
+use Rattle.params.proofs.AdmissionLaws.{admitted-valid, admits-false, admitted-or-not}
 use Rattle.look_up.specs.declared.Span.{Span}
 use Rattle.look_up.specs.LookUp.{present, found, lookUpNumber, lookUpAnswer, lookUpPart, lookUpSpan}
 
@@ -31,11 +32,11 @@ pub record HasOpening (p : Params) (size i j : ℕ) : Type 0 where
 pub found-facts : (p : Params) (size i j : ℕ) → found p size i j ≡ true → HasOpening p size i j
 unfolding present
 found-facts p size i j e =
-    let e₁ = both (valid p) _ e in
+    let e₁ = both (admits p) _ e in
     let e₂ = both (eqb size (fileLength p)) _ (e₁ .1) in
     let e₃ = both (ltb i (p .q)) _ (e₂ .1) in
     record {
-      is-valid = valid-facts p (e₁ .0);
+      is-valid = admitted-valid p (eqb-true _ _ (e₁ .0));
       whole = eqb-true _ _ (e₂ .0);
       query = ltb-true _ _ (e₃ .0);
       layer = ltb-true _ _ (e₃ .1);
@@ -62,49 +63,52 @@ opening-within p i j h l =
     let less : suc i * queryLength p 0 (p .k) ≤ p .q * queryLength p 0 (p .k) = mul-le-mul-right (queryLength p 0 (p .k)) (omega arith) in
     omega (arith, more, less, layer-within p 0 j j (p .k) (omega arith) l)
 
--- The tests of the code: for parameters that are not valid the length is not asked.
-valid-only : (v : Bool) (size full : ℕ) (rest : Bool) → (v && (eqb size (cond v full 0) && rest)) ≡ (v && (eqb size full && rest))
-valid-only true size full rest = refl
-valid-only false size full rest = refl
-
-pub found-test : {w : ℕ} {v : Bool} (p : Params) (size i j : ℕ) → w ≡ ifValid p (fileLength p) → v ≡ valid p
-    → (v && (eqb size w && (ltb i (p .q) && ltb j (p .k)))) ≡ found p size i j
+-- The tests of the code: where the arguments are not admitted the length is not asked.
+pub found-test : {w n : ℕ} (p : Params) (size i j : ℕ) → w ≡ ifValid p (fileLength p) → n ≡ admission p
+    → (eqb n open-so-far && (eqb size w && (ltb i (p .q) && ltb j (p .k)))) ≡ found p size i j
 unfolding present
-found-test p size i j e f = rw (e, f) (valid-only (valid p) size (fileLength p) (ltb i (p .q) && ltb j (p .k)))
+found-test {w} {n} p size i j e f = by (admitted-or-not p)
+  where
+    by : Dec (admission p ≡ open-so-far) → (eqb n open-so-far && (eqb size w && (ltb i (p .q) && ltb j (p .k)))) ≡ found p size i j
+    by (yes v) = rw (f, from-valid p (fileLength p) (admitted-valid p v) e)
+    by (no r) = rw (f, admits-false p r)
 
 -- The number, by the code's tests.
-pub number-not-valid : (v w : Bool) → not v ≡ true → parameters-not-valid ≡ lookUpNumber v w
+pub number-refused : (n : ℕ) (w : Bool) → (n ≡ open-so-far → ⊥) → n ≡ lookUpNumber n w
 unfolding lookUpNumber
-number-not-valid v w e = rw (not-true v e)
+number-refused n w e = rw (ne-eqb n open-so-far e)
 
-pub number-absent : (v w : Bool) → not v ≡ false → not w ≡ true → no-such-opening ≡ lookUpNumber v w
+pub number-absent : (n : ℕ) (w : Bool) → n ≡ open-so-far → not w ≡ true → no-such-opening ≡ lookUpNumber n w
 unfolding lookUpNumber
-number-absent v w e f = rw (not-false v e, not-true w f)
+number-absent n w e f = rw (e, not-true w f)
 
-pub number-open : (v w : Bool) → not v ≡ false → not w ≡ false → open-so-far ≡ lookUpNumber v w
+pub number-open : (n : ℕ) (w : Bool) → n ≡ open-so-far → not w ≡ false → open-so-far ≡ lookUpNumber n w
 unfolding lookUpNumber
-number-open v w e f = rw (not-false v e, not-false w f)
+number-open n w e f = rw (e, not-false w f)
 
-pub ruleset numbers = (number-not-valid, number-absent, number-open)
+pub ruleset numbers = (number-refused, number-absent, number-open)
 
-number-found : (v w : Bool) → lookUpNumber v (v && w) ≡ lookUpNumber v w
+number-found : (n : ℕ) (w : Bool) → lookUpNumber n (eqb n open-so-far && w) ≡ lookUpNumber n w
 unfolding lookUpNumber
-number-found true w = refl
-number-found false w = refl
+number-found n w = by (eqb n open-so-far)
+  where
+    by : (b : Bool) → cond b (cond (b && w) open-so-far no-such-opening) n ≡ cond b (cond w open-so-far no-such-opening) n
+    by true = refl
+    by false = refl
 
-number-same : {n : ℕ} {v t : Bool} (p : Params) (size i j : ℕ) → v ≡ valid p → t ≡ found p size i j → n ≡ lookUpNumber v t
-    → n ≡ lookUpNumber (valid p) (present p size i j)
-number-same p size i j e f g = rw (g, e, f) (number-found (valid p) (present p size i j))
+number-same : {n m : ℕ} {t : Bool} (p : Params) (size i j : ℕ) → m ≡ admission p → t ≡ found p size i j → n ≡ lookUpNumber m t
+    → n ≡ lookUpNumber (admission p) (present p size i j)
+number-same p size i j e f g = rw (g, e, f) (number-found (admission p) (present p size i j))
 
 -- The span, found and not.
-pub span-found : {n s l : ℕ} {v t : Bool} (p : Params) (size i j : ℕ) → v ≡ valid p → t ≡ found p size i j → n ≡ lookUpNumber v t → t ≡ true
+pub span-found : {n m s l : ℕ} {t : Bool} (p : Params) (size i j : ℕ) → m ≡ admission p → t ≡ found p size i j → n ≡ lookUpNumber m t → t ≡ true
     → s ≡ ifValid p (openingOffset p i j) → l ≡ openingLength p j
     → _≡_ {A = Span} (record { number = n; place = 0; start = s; length = l }) (lookUpSpan p size i j)
 unfolding lookUpSpan
 span-found p size i j e f g h a b =
-    rw (number-same p size i j e f g, a, b, sym f ∙ h, both (valid p) _ (sym f ∙ h) .0)
+    rw (number-same p size i j e f g, from-valid p _ (found-facts p size i j (sym f ∙ h) .is-valid) a, b, sym f ∙ h)
 
-pub span-none : {n : ℕ} {v t : Bool} (p : Params) (size i j : ℕ) → v ≡ valid p → t ≡ found p size i j → n ≡ lookUpNumber v t → t ≡ false
+pub span-none : {n m : ℕ} {t : Bool} (p : Params) (size i j : ℕ) → m ≡ admission p → t ≡ found p size i j → n ≡ lookUpNumber m t → t ≡ false
     → _≡_ {A = Span} (record { number = n; place = 0; start = 0; length = 0 }) (lookUpSpan p size i j)
 unfolding lookUpSpan
 span-none p size i j e f g h = rw (number-same p size i j e f g, sym f ∙ h)
@@ -135,33 +139,6 @@ pub span-answer : (p : Params) (file : List ℕ) (i j : ℕ)
     → answered (lookUpSpan p (length file) i j .number) (lookUpSpan p (length file) i j .place) ≡ lookUpAnswer p file i j
 unfolding lookUpSpan lookUpAnswer
 span-answer p file i j = refl
-
--- A refusal hands back nothing, and what is found has an opening's length.
-none-by : (v w : Bool) (xs : List ℕ) → (lookUpNumber v w ≡ open-so-far → ⊥) → cond (v && w) xs [] ≡ []
-unfolding lookUpNumber
-none-by true true xs h = absurd (h refl)
-none-by true false xs h = refl
-none-by false w xs h = refl
-
-pub refused-part : (p : Params) (file : List ℕ) (i j : ℕ) → (lookUpAnswer p file i j .number ≡ open-so-far → ⊥) → lookUpPart p file i j ≡ []
-unfolding lookUpAnswer lookUpPart
-refused-part p file i j h = none-by (valid p) (present p (length file) i j) _ h
-
-found-by : (v w : Bool) → lookUpNumber v w ≡ open-so-far → (v && w) ≡ true
-unfolding lookUpNumber
-found-by true true e = refl
-found-by true false e = absurd (omega (arith, e))
-found-by false w e = absurd (omega (arith, e))
-
-pub found-length : (p : Params) (file : List ℕ) (i j : ℕ) → lookUpAnswer p file i j .number ≡ open-so-far
-    → length (lookUpPart p file i j) ≡ openingLength p j
-unfolding lookUpAnswer lookUpPart part
-found-length p file i j e =
-    let t : found p (length file) i j ≡ true = found-by (valid p) (present p (length file) i j) e in
-    let f = found-facts p (length file) i j t in
-    rw t
-    (length-take-le (openingLength p j) (drop (openingOffset p i j) file)
-    (omega (arith, f .whole, opening-within p i j (f .query) (f .layer), length-drop (openingOffset p i j) file)))
 
 -- The span's laws, of the numbers that the code has.
 pub cut-within : {s : Span} (p : Params) (size i j : ℕ) → s ≡ lookUpSpan p size i j → s .start + s .length ≤ size

@@ -14,7 +14,9 @@ use Rattle.message.proofs.Bytes.{Sized, sized, le-length, part-at, part-part, j
 use Rattle.message.proofs.MessageLaws.{words-length}
 use Rattle.params.specs.declared.Params.{Params}
 use Rattle.params.specs.Parameters.{Valid, headerSize, header, finalCount, openingLength, queryLength, queriesOffset, openingOffset, fileLength}
-use Rattle.params.proofs.ParameterLaws.{valid-test}
+use Rattle.params.specs.Admission.{admission, Admitted}
+use Rattle.params.specs.declared.Terms.{Terms}
+use Rattle.params.proofs.AdmissionLaws.{admits-true}
 use Rattle.fri.specs.Encoding.{Opening, Proof, noOpening, openingAt, openingBytes, queryBytes, encode, IsOpening, HasLayout}
 use Rattle.fri.specs.Judge.{verdict}
 use Rattle.fri.specs.Accepted.{Accepted}
@@ -151,16 +153,16 @@ module _ (p : Params) where
           ∙ layer-at 0 (getD (proof .queries) i []) (openings i query) j j (omega arith) (omega (arith, layer, layout .layer-count i query))
 
       -- So the look-up finds it.
-      pub encoded-answer : Valid p → lookUpAnswer p (encode p proof) i j ≡ answered open-so-far 0
+      pub encoded-answer : admission p ≡ open-so-far → lookUpAnswer p (encode p proof) i j ≡ answered open-so-far 0
       unfolding lookUpAnswer lookUpNumber
-      encoded-answer v = rw (valid-test p v, present-test p (length (encode p proof)) i j encoded-length query layer)
+      encoded-answer v = rw (v, present-test p (length (encode p proof)) i j encoded-length query layer)
 
-      pub encoded-part : Valid p → lookUpPart p (encode p proof) i j ≡ openingBytes (openingAt proof i j)
+      pub encoded-part : admission p ≡ open-so-far → lookUpPart p (encode p proof) i j ≡ openingBytes (openingAt proof i j)
       unfolding lookUpPart
-      encoded-part v = rw (valid-test p v, present-test p (length (encode p proof)) i j encoded-length query layer) encoded-opening
+      encoded-part v = rw (v, present-test p (length (encode p proof)) i j encoded-length query layer) encoded-opening
 
 -- In an accepted file the look-up finds every opening of its proof.
-pub looked-up : (hash : List ℕ → Digest) (p : Params) (context file : List ℕ) → Valid p → (a : Accepted hash p context file)
+pub looked-up : (hash : List ℕ → Digest) (p : Params) (context file : List ℕ) → admission p ≡ open-so-far → (a : Accepted hash p context file)
     → (i j : ℕ) → i < p .q → j < p .k
     → (lookUpAnswer p file i j ≡ answered open-so-far 0) × (lookUpPart p file i j ≡ openingBytes (openingAt (a .proof) i j))
 looked-up hash p context file v a i j h l = (
@@ -175,12 +177,12 @@ pub record LookedUp (hash : List ℕ → Digest) (p : Params) (context file : Li
   pub parts : (i j : ℕ) → i < p .q → j < p .k → lookUpPart p file i j ≡ openingBytes (openingAt (is-accepted .proof) i j)
 
 -- A file that the verdict accepts is the encoding of a proof with the layout, and the look-up hands back its openings.
-pub verdict-looked-up : (hash : List ℕ → Digest) (p : Params) (context file : List ℕ) → Valid p → Bytes file
-    → verdict hash p context file ≡ answered accepted (fileLength p) → LookedUp hash p context file
-verdict-looked-up hash p context file v b e =
-    let a = verdict-accepted hash p context file v b e in
+pub verdict-looked-up : (hash : List ℕ → Digest) (a : Terms) (file : List ℕ) → Admitted a → Bytes file
+    → verdict hash a file ≡ answered accepted (length file) → LookedUp hash (a .params) (a .context) file
+verdict-looked-up hash a file v b e =
+    let h = verdict-accepted hash a file v b e in
     record {
-      is-accepted = a;
-      answers = λ i j h l. looked-up hash p context file v a i j h l .0;
-      parts = λ i j h l. looked-up hash p context file v a i j h l .1;
+      is-accepted = h;
+      answers = λ i j k l. looked-up hash (a .params) (a .context) file v h i j k l .0;
+      parts = λ i j k l. looked-up hash (a .params) (a .context) file v h i j k l .1;
     }

@@ -5,10 +5,11 @@ use mathlib.Core.List.{List, []}
 use lib.Dec.{eqb, ltb}
 use lib.ListN.{length}
 use Rattle.answer.specs.declared.Answer.{Answer}
-use Rattle.answer.specs.Table.{answered, open-so-far, parameters-not-valid, no-such-opening}
+use Rattle.answer.specs.Table.{answered, open-so-far, no-such-opening}
 use Rattle.message.specs.Bytes.{part}
 use Rattle.params.specs.declared.Params.{Params}
-use Rattle.params.specs.Parameters.{valid, openingLength, openingOffset, fileLength}
+use Rattle.params.specs.Parameters.{openingLength, openingOffset, fileLength}
+use Rattle.params.specs.Admission.{admission, admits}
 use Rattle.look_up.specs.declared.Span.{Span}
 
 -- A file of a size has an opening of query i in layer j: the size is L, and there is such a query and such a layer.
@@ -17,15 +18,15 @@ present p size i j = eqb size (fileLength p) && (ltb i (p .q) && ltb j (p .k))
 
 -- The look-up finds the opening.
 abbrev pub found : Params → ℕ → ℕ → ℕ → Bool
-found p size i j = valid p && present p size i j
+found p size i j = admits p && present p size i j
 
--- The number: first for the parameters, then for the opening.
-unfoldable pub lookUpNumber : Bool → Bool → ℕ
-lookUpNumber isValid isPresent = cond isValid (cond isPresent open-so-far no-such-opening) parameters-not-valid
+-- The number: first the admission's, then the opening's.
+unfoldable pub lookUpNumber : ℕ → Bool → ℕ
+lookUpNumber admitted isPresent = cond (eqb admitted open-so-far) (cond isPresent open-so-far no-such-opening) admitted
 
 -- The answer, at place 0, and the part: the opening's bytes, or none.
 unfoldable pub lookUpAnswer : Params → List ℕ → ℕ → ℕ → Answer
-lookUpAnswer p file i j = answered (lookUpNumber (valid p) (present p (length file) i j)) 0
+lookUpAnswer p file i j = answered (lookUpNumber (admission p) (present p (length file) i j)) 0
 
 unfoldable pub lookUpPart : Params → List ℕ → ℕ → ℕ → List ℕ
 lookUpPart p file i j = cond (found p (length file) i j) (part (openingOffset p i j) (openingLength p j) file) []
@@ -34,7 +35,7 @@ lookUpPart p file i j = cond (found p (length file) i j) (part (openingOffset p 
 unfoldable pub lookUpSpan : Params → ℕ → ℕ → ℕ → Span
 lookUpSpan p size i j =
     record {
-      number = lookUpNumber (valid p) (present p size i j);
+      number = lookUpNumber (admission p) (present p size i j);
       place = 0;
       start = cond (found p size i j) (openingOffset p i j) 0;
       length = cond (found p size i j) (openingLength p j) 0;

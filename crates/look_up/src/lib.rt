@@ -20,14 +20,14 @@ fn is_found(p: Params, length: usize, query: usize, layer: usize) -> bool
     let whole = params::file_length(p);
     let q = p.q as usize;
     let k = p.k as usize;
-    params::is_valid(p) & ((length == whole) & ((query < q) & (layer < k)))
+    (params::admission(p) == answer::OPEN) & ((length == whole) & ((query < q) & (layer < k)))
 }
 
-fn look_up_number(valid: bool, present: bool) -> u8
-    ensures { λ r. ⌜ r ≡ spec.lookUpNumber valid present ⌝ }
+fn look_up_number(admission: u8, present: bool) -> u8
+    ensures { λ r. ⌜ r ≡ spec.lookUpNumber admission present ⌝ }
 {
-    if !valid {
-        return answer::PARAMETERS_NOT_VALID;
+    if admission != answer::OPEN {
+        return admission;
     }
     if !present {
         return answer::NO_SUCH_OPENING;
@@ -40,7 +40,7 @@ pub fn look_up_span(p: Params, length: usize, query: usize, layer: usize) -> Spa
     ensures { λ r. ⌜ r ≡ spec.lookUpSpan p length query layer ⌝ }
 {
     let found = is_found(p, length, query, layer);
-    let number = look_up_number(params::is_valid(p), found);
+    let number = look_up_number(params::admission(p), found);
     if found {
         let i = query as u8;
         let j = layer as u8;

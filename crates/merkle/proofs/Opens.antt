@@ -6,7 +6,7 @@ use native.Mathlib.Nat.{pow-suc, pow-zero}
 use native.Mathlib.Omega.{arith}
 use lib.ListN.{length, getD}
 use Rattle.message.specs.Message.{Digest}
-use Rattle.merkle.specs.Merkle.{sibling, node, join, above, rootOf, path, climb}
+use Rattle.merkle.specs.Merkle.{leafDigest, sibling, node, join, above, rootOf, path, climb}
 
 -- A node's sibling stands in the same row.
 pub sibling-below : (m k b : ℕ) → m % 2 ≡ b → m < 2 * k → sibling b m < 2 * k
@@ -15,6 +15,11 @@ sibling-below m k zero e h = omega arith
 sibling-below m k (suc b) e h = omega arith
 
 module _ (hash : List ℕ → Digest) where
+  -- A leaf's digest is a hash.
+  pub leaf-all : (P : Digest → Type 0) → ((xs : List ℕ) → P (hash xs)) → (j : ℕ) (values : List ℕ) → P (leafDigest hash j values)
+  unfolding leafDigest
+  leaf-all P each j values = each _
+
   pub above-length : (row : List Digest) (k : ℕ) → length row ≡ 2 * k → length (above hash row) ≡ k
   unfolding above
   above-length [] k e = omega arith

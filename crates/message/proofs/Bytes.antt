@@ -132,3 +132,19 @@ num-eight d h =
 pub num-two : (d : List ℕ) → 2 ≤ length d → num (take 2 d) ≡ getD d 0 0 + 256 * getD d 1 0
 unfolding num
 num-two d h = rw (num-front d 0 1 (omega arith), num-front d 1 0 (omega arith)) (omega arith)
+
+-- The same numbers of bytes that were read one by one.
+pub two-read : (d : List ℕ) {a b : ℕ} → 2 ≤ length d → a ≡ getD d 0 0 → b ≡ getD d 1 0 → a + 256 * b ≡ num (take 2 d)
+two-read d h ea eb = ap₂ (λ x y. x + 256 * y) ea eb ∙ sym (num-two d h)
+
+pub word-read : {a b c e a₁ b₁ c₁ e₁ : ℕ} → a ≡ a₁ → b ≡ b₁ → c ≡ c₁ → e ≡ e₁
+    → a + 256 * (b + 256 * (c + 256 * e)) ≡ a₁ + 256 * (b₁ + 256 * (c₁ + 256 * e₁))
+word-read ea eb ec ee = ap₂ (λ x y. x + 256 * y) ea (ap₂ (λ x y. x + 256 * y) eb (ap₂ (λ x y. x + 256 * y) ec ee))
+
+pub four-read : (d : List ℕ) {a b c e : ℕ} → 4 ≤ length d → a ≡ getD d 0 0 → b ≡ getD d 1 0 → c ≡ getD d 2 0 → e ≡ getD d 3 0
+    → a + 256 * (b + 256 * (c + 256 * e)) ≡ num (take 4 d)
+four-read d h ea eb ec ee = word-read ea eb ec ee ∙ sym (num-four d h)
+
+pub eight-read : (d : List ℕ) {low a b c e : ℕ} → 8 ≤ length d → low ≡ num (take 4 d) → a ≡ getD d 4 0 → b ≡ getD d 5 0 → c ≡ getD d 6 0 → e ≡ getD d 7 0
+    → low + 4294967296 * (a + 256 * (b + 256 * (c + 256 * e))) ≡ num (take 8 d)
+eight-read d h el ea eb ec ee = ap₂ (λ x y. x + 4294967296 * y) el (word-read ea eb ec ee) ∙ sym (num-eight d h)

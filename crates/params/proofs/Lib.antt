@@ -1,3 +1,4 @@
 -- Laws of parameters and lengths.
 pub mod ParameterLaws
+pub mod AdmissionLaws
 pub mod LeafLaws

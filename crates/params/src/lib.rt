@@ -1,6 +1,8 @@
 // The parameters of a proof (document 01, "Parameters and domain"), by value. A later parameter byte is a field more here; no signature changes.
 ghost use mathlib.Core.Path.{_≡_};
+ghost use lib.ListN.{getD};
 ghost use Rattle.params.specs.Parameters as spec;
+ghost use Rattle.params.specs.Admission as admission;
 
 #[repr(C)]
 pub struct Params {
@@ -8,6 +10,12 @@ pub struct Params {
     pub b: u8,
     pub k: u8,
     pub q: u8,
+}
+
+// What an opening is asked for: a proof under these parameters, bound to this context. A later argument is a field more here.
+pub struct Terms {
+    pub params: Params,
+    pub context: [u8; 32],
 }
 
 // The number of parameter bytes.
@@ -23,16 +31,22 @@ pub fn header(p: Params) -> [u8; HEADER_SIZE]
     [p.n, p.b, p.k, p.q]
 }
 
-// The parameters that such bytes are.
-pub fn from_header(bytes: [u8; HEADER_SIZE]) -> Params
-    ensures { λ r. ⌜ r ≡ spec.fromHeader bytes ⌝ }
+// A byte of a slice; past its end 0.
+fn byte_at(bytes: &[u8], i: usize) -> u8
+    ensures { λ r. ⌜ r ≡ getD (now (bytes .entry)) i 0 ⌝ }
 {
-    Params {
-        n: bytes[0],
-        b: bytes[1],
-        k: bytes[2],
-        q: bytes[3],
-    }
+    if i < bytes.len() { bytes[i] } else { 0 }
+}
+
+// The parameters that the bytes at the front are; where there are fewer, zeros.
+pub fn from_header(bytes: &[u8]) -> Params
+    ensures { λ r. ⌜ r ≡ spec.fromHeader (now (bytes .entry)) ⌝ }
+{
+    let n = byte_at(bytes, 0);
+    let b = byte_at(bytes, 1);
+    let k = byte_at(bytes, 2);
+    let q = byte_at(bytes, 3);
+    Params { n, b, k, q }
 }
 
 fn in_range(low: u8, x: u8, high: u8) -> bool
@@ -49,6 +63,17 @@ pub fn is_valid(p: Params) -> bool
     let fits = (used <= n) & (n <= used + 6);
     in_range(2, p.n, 20)
         & (in_range(1, p.b, 8) & (in_range(1, p.k, 12) & (in_range(1, p.q, 64) & fits)))
+}
+
+// Whether a caller's arguments are admitted: the refusal's number, or 0.
+pub fn admission(p: Params) -> u8
+    ensures { λ r. ⌜ r ≡ admission.admission p ⌝ }
+{
+    if is_valid(p) {
+        answer::OPEN
+    } else {
+        answer::PARAMETERS_NOT_VALID
+    }
 }
 
 // The number of bits of a leaf's index in layer 0.

@@ -3,7 +3,7 @@
 use Prim.Native.Nat.{ℕ, suc, _+_, _-_, _≤_, _<_}
 use native.Mathlib.Omega.{arith}
 use native.Mathlib.Numerals.{add-one}
-use mathlib.Core.Path.{_≡_, refl, sym, _∙_, ap, ap₂}
+use mathlib.Core.Path.{_≡_, refl, sym, _∙_, ap}
 use mathlib.Core.Bool.{Bool, true, false}
 use mathlib.Core.List.{List, [], _∷_, foldl, foldl-append}
 use lib.ListN.{length, take, drop, getD, set, take-append-drop, length-drop}
@@ -18,9 +18,9 @@ use Rattle.reader_model.specs.declared.Reader.{Reader}
 use Rattle.reader_model.specs.State.{itemLength, withCore, withItem}
 use Rattle.reader_model.specs.Items.{advanced}
 use Rattle.answer.specs.declared.Answer.{Answer}
-use Rattle.answer.specs.Table.{answered, open-so-far}
+use Rattle.answer.specs.Table.{open-so-far}
 use Rattle.reader_model.specs.declared.Reply.{Reply}
-use Rattle.reader_model.specs.Model.{Buffer, stored, step, fed, openAnswer, answerOf, pieced, holding}
+use Rattle.reader_model.specs.Model.{stored, step, fed, answerOf, pieced, endsInside, filledItem}
 use Rattle.reader_items.proofs.Laws.{taken, left}
 
 -- No item is longer than the buffer.
@@ -45,31 +45,23 @@ pub answers : (hash : List ℕ → Digest) (s : Reader) (bytes : List ℕ) {r : 
 unfolding pieced
 answers hash s bytes {r} after told = rw (told, after) refl
 
-abbrev buffered : Answer → ℕ → List ℕ → Buffer
-buffered a fill item = record { answer = a; fill = fill; item = item }
-
 -- A run of one byte.
 pub gathered-one : (item : List ℕ) (at : ℕ) (bytes : List ℕ) (n : ℕ) → n ≡ 1 → n ≤ length bytes → set item at (getD bytes 0 0) ≡ sets item at (take n bytes)
 gathered-one item at [] n one some = absurd (omega arith)
 gathered-one item at (b ∷ bytes) n one some = rw one
 
--- A piece that is held, and one that is not.
-pub holding-inside : (stage : Stage) (start fill : ℕ) (item bytes : List ℕ) → ltb (fill + length bytes) (itemLength stage) ≡ true
-    → buffered (openAnswer open-so-far start (fill + length bytes)) (fill + length bytes) (sets item fill bytes) ≡ holding stage start fill item bytes
-unfolding holding
-holding-inside stage start fill item bytes inside = taken _ inside
+-- A piece that ends inside the item, and one that does not.
+pub filled-inside : (stage : Stage) (fill : ℕ) (item bytes : List ℕ) → endsInside stage fill bytes ≡ true → sets item fill bytes ≡ filledItem stage fill item bytes
+unfolding filledItem
+filled-inside stage fill item bytes inside = taken _ inside
 
-pub holding-not : (stage : Stage) (start fill : ℕ) (item bytes : List ℕ) → ltb (fill + length bytes) (itemLength stage) ≡ false
-    → buffered (answered open-so-far 0) fill item ≡ holding stage start fill item bytes
-unfolding holding
-holding-not stage start fill item bytes outside = left _ outside
+pub filled-not : (stage : Stage) (fill : ℕ) (item bytes : List ℕ) → endsInside stage fill bytes ≡ false → item ≡ filledItem stage fill item bytes
+unfolding filledItem
+filled-not stage fill item bytes outside = left _ outside
 
-pub held-inside : (stage : Stage) (start fill : ℕ) (item bytes : List ℕ) {a : Answer} {stores : List ℕ} → ltb (fill + length bytes) (itemLength stage) ≡ true
-    → a ≡ openAnswer open-so-far start (fill + length bytes) → stores ≡ sets item fill (take (length bytes) bytes)
-    → buffered a (fill + length bytes) stores ≡ holding stage start fill item bytes
-held-inside stage start fill item bytes inside told stored-is =
-    ap₂ (λ (x : Answer) (l : List ℕ). buffered x (fill + length bytes) l) told (stored-is ∙ ap (sets item fill) (take-length bytes))
-    ∙ holding-inside stage start fill item bytes inside
+pub gathered-inside : (stage : Stage) (fill : ℕ) (item bytes : List ℕ) {stores : List ℕ} → endsInside stage fill bytes ≡ true
+    → stores ≡ sets item fill (take (length bytes) bytes) → stores ≡ filledItem stage fill item bytes
+gathered-inside stage fill item bytes inside e = e ∙ (ap (sets item fill) (take-length bytes) ∙ filled-inside stage fill item bytes inside)
 
 -- Whether n bytes end inside an item, told without a sum that could be too large.
 pub ends-inside-test : (fill n need : ℕ) → n < need → ltb fill (need - n) ≡ ltb (fill + n) need

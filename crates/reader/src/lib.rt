@@ -7,16 +7,19 @@ ghost use lib.Dec.{ltb};
 ghost use lib.ListN.{length, take};
 ghost use lib.Seq.{sets};
 ghost use Rattle.sha256.specs.Sha256.{sha256};
-ghost use Rattle.reader_model.specs.State.{itemLength, tables, whole};
-ghost use Rattle.reader_model.specs.Items.{advanced};
-ghost use Rattle.answer.specs.Table.{accepted, too-few-bytes};
-ghost use Rattle.reader_model.specs.Model.{isTail, fed, started, replied, pieced, buffer, holding, ended, opened};
-ghost use Rattle.reader_items.specs.Private.{Sane, afterItem};
+ghost use Rattle.reader_model.specs.State.{itemLength, closedState, tables, whole};
+ghost use Rattle.reader_model.specs.Items.{afterItem, advanced};
+ghost use Rattle.answer.specs.Table.{open-so-far, accepted, too-few-bytes};
+ghost use Rattle.reader_model.specs.Model.{isStopped, isTail, openAnswer, fed, started, replied, pieced, endsInside, filledItem, ended, opened};
+ghost use Rattle.reader_items.specs.Private.{Sane};
 use answer::Answer;
 use params::Params;
+use params::Terms;
+use reader_model::CHALLENGES;
+use reader_model::COEFFICIENTS;
 use reader_model::Core;
-use reader_model::Hold;
 use reader_model::Progress;
+use reader_model::ROOTS;
 use reader_model::Reader;
 use reader_model::Reply;
 use reader_model::Stage;
@@ -26,12 +29,12 @@ use transcript::Transcript;
 // What a whole item of a sane state does, by its stage.
 fn dispatch(
     c: Core,
-    roots: &mut [u8; 512],
-    challenges: &mut [u32; 16],
-    coefficients: &mut [u32; 64],
+    roots: &mut [u8; ROOTS],
+    challenges: &mut [u32; CHALLENGES],
+    coefficients: &mut [u32; COEFFICIENTS],
 ) -> Core
     requires { ⌜ Sane c ⌝ }
-    ensures { λ r. ⌜ whole r (now (roots .exit)) (now (challenges .exit)) (now (coefficients .exit)) ≡ afterItem c (tables (now (roots .entry)) (now (challenges .entry)) (now (coefficients .entry))) ⌝ }
+    ensures { λ r. ⌜ whole r (now (roots .exit)) (now (challenges .exit)) (now (coefficients .exit)) ≡ afterItem sha256 (c .stage) c (tables (now (roots .entry)) (now (challenges .entry)) (now (coefficients .entry))) ⌝ }
 {
     let stage = c.stage;
     let params = c.params;
@@ -60,9 +63,9 @@ fn dispatch(
 // The state after a whole item.
 fn advance(
     c: Core,
-    roots: &mut [u8; 512],
-    challenges: &mut [u32; 16],
-    coefficients: &mut [u32; 64],
+    roots: &mut [u8; ROOTS],
+    challenges: &mut [u32; CHALLENGES],
+    coefficients: &mut [u32; COEFFICIENTS],
 ) -> Core
     ensures { λ r. ⌜ whole r (now (roots .exit)) (now (challenges .exit)) (now (coefficients .exit)) ≡ advanced sha256 (whole c (now (roots .entry)) (now (challenges .entry)) (now (coefficients .entry))) ⌝ }
 {
@@ -106,9 +109,9 @@ fn gather(item: &mut [u8; 32], at: usize, bytes: &[u8], n: usize)
 // The state after a piece, item by item. Only the small part goes by value.
 fn feed(
     core: Core,
-    roots: &mut [u8; 512],
-    challenges: &mut [u32; 16],
-    coefficients: &mut [u32; 64],
+    roots: &mut [u8; ROOTS],
+    challenges: &mut [u32; CHALLENGES],
+    coefficients: &mut [u32; COEFFICIENTS],
     bytes: &[u8],
 ) -> Core
     ensures { λ r. ⌜ whole r (now (roots .exit)) (now (challenges .exit)) (now (coefficients .exit)) ≡ fed sha256 (whole core (now (roots .entry)) (now (challenges .entry)) (now (coefficients .entry))) (now (bytes .entry)) ⌝ }
@@ -141,9 +144,9 @@ fn feed(
 // A piece: its answer, and the small part of the state after it; the tables are lent and changed in place.
 pub fn piece_in_place(
     core: Core,
-    roots: &mut [u8; 512],
-    challenges: &mut [u32; 16],
-    coefficients: &mut [u32; 64],
+    roots: &mut [u8; ROOTS],
+    challenges: &mut [u32; CHALLENGES],
+    coefficients: &mut [u32; COEFFICIENTS],
     bytes: &[u8],
 ) -> Progress
     ensures { λ r. ⌜ replied (r .answer) (r .core) (now (roots .exit)) (now (challenges .exit)) (now (coefficients .exit)) ≡ pieced sha256 (whole core (now (roots .entry)) (now (challenges .entry)) (now (coefficients .entry))) (now (bytes .entry)) ⌝ }
@@ -164,29 +167,40 @@ fn ends_inside(stage: Stage, fill: usize, n: usize) -> bool
     if n < need { fill < need - n } else { false }
 }
 
-// A piece that ends inside the current item touches nothing but the item's buffer, which is lent. Small pieces are common where bytes come off the wire.
-// Any other piece is not held: the fill stays as it was.
-pub fn hold(stage: Stage, start: u32, fill: usize, item: &mut [u8; 32], bytes: &[u8]) -> Hold
-    ensures { λ r. ⌜ buffer r (now (item .exit)) ≡ holding stage start fill (now (item .entry)) (now (bytes .entry)) ⌝ }
+// A piece that ends inside the current item touches nothing but the item's buffer, which is lent: whether this is such a piece. Any other is left to be
+// read. Small pieces are common where bytes come off the wire.
+pub fn fill_item(stage: Stage, fill: usize, item: &mut [u8; 32], bytes: &[u8]) -> bool
+    ensures inside { λ r. ⌜ r ≡ endsInside stage fill (now (bytes .entry)) ⌝ }
+    ensures item { λ _. ⌜ now (item .exit) ≡ filledItem stage fill (now (item .entry)) (now (bytes .entry)) ⌝ }
 {
     let length = bytes.len();
     if ends_inside(stage, fill, length) {
         gather(item, fill, bytes, length);
-        let filled = fill + length;
-        let answer = reader_items::state::open_answer(answer::OPEN, start, filled);
-        Hold {
-            answer: answer,
-            fill: filled,
-        }
+        true
     } else {
-        Hold {
-            answer: Answer {
-                number: answer::OPEN,
-                place: 0,
-            },
-            fill: fill,
-        }
+        false
     }
+}
+
+// The answer of an open reader, of its item's start and fill.
+pub fn open_answer(start: u32, fill: usize) -> Answer
+    ensures { λ r. ⌜ r ≡ openAnswer open-so-far start fill ⌝ }
+{
+    reader_items::state::open_answer(answer::OPEN, start, fill)
+}
+
+// Whether a reader at this stage is refused or closed, so that no byte changes it any more.
+pub fn is_stopped(stage: Stage) -> bool
+    ensures { λ r. ⌜ r ≡ isStopped stage ⌝ }
+{
+    reader_items::state::is_stopped(stage)
+}
+
+// The closed state.
+pub fn closed() -> Reader
+    ensures { λ r. ⌜ r ≡ closedState ⌝ }
+{
+    reader_items::state::closed_state()
 }
 
 // A piece by value: its answer, and the state after it.
@@ -240,12 +254,10 @@ pub fn end(state: Reader) -> Reply
     }
 }
 
-// The state that an opening with valid parameters leaves.
-fn start(p: Params, context: [u8; 32]) -> Reader
-    ensures { λ r. ⌜ r ≡ started sha256 p context ⌝ }
+// The state before any byte, from the transcript's first state.
+fn start(p: Params, transcript: [u8; 32]) -> Reader
+    ensures { λ r. ⌜ r ≡ started p transcript ⌝ }
 {
-    let first = Transcript::start(p, context);
-    let transcript = first.state;
     let cursor = reader_items::state::no_cursor();
     let walk = reader_items::state::no_walk();
     let tables = reader_items::state::no_tables();
@@ -269,11 +281,16 @@ fn start(p: Params, context: [u8; 32]) -> Reader
 }
 
 // The opening.
-pub fn open(p: Params, context: [u8; 32]) -> Reply
-    ensures { λ r. ⌜ r ≡ opened sha256 p context ⌝ }
+pub fn open(a: Terms) -> Reply
+    ensures { λ r. ⌜ r ≡ opened sha256 a ⌝ }
 {
-    if params::is_valid(p) {
-        let state = start(p, context);
+    let p = a.params;
+    let number = params::admission(p);
+    if number == answer::OPEN {
+        let context = a.context;
+        let first = Transcript::start(p, context);
+        let transcript = first.state;
+        let state = start(p, transcript);
         Reply {
             answer: Answer {
                 number: answer::OPEN,
@@ -285,7 +302,7 @@ pub fn open(p: Params, context: [u8; 32]) -> Reply
         let state = reader_items::state::closed_state();
         Reply {
             answer: Answer {
-                number: answer::PARAMETERS_NOT_VALID,
+                number: number,
                 place: 0,
             },
             state: state,

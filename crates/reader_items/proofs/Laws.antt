@@ -1,7 +1,7 @@
 -- Laws on choices by a test, and on the tests of a state, over plain variables, so that a function's answer only cites them.
 -- Assumes nothing.
 use Prim.Native.Nat.{ℕ, _+_, _≤_, _<_}
-use mathlib.Core.Path.{_≡_, refl, sym, _∙_, ap, ap₂}
+use mathlib.Core.Path.{_≡_, refl, sym, _∙_, ap}
 use mathlib.Core.Bool.{Bool, true, false, cond, _&&_, false≢true}
 use mathlib.Core.List.{List}
 use lib.ListN.{take}
@@ -16,9 +16,9 @@ use Rattle.reader_model.specs.declared.Stage.the-variants.{ParameterCount, Para
 use Rattle.reader_model.specs.declared.Core.{Core}
 use Rattle.reader_model.specs.declared.Tables.{Tables}
 use Rattle.reader_model.specs.declared.Reader.{Reader}
-use Rattle.reader_model.specs.State.{stopped, withCore, withWalk, movedTo}
-use Rattle.reader_model.specs.Items.{sane, atHeight, climbed, afterSibling, dispatched, kept, advanced}
-use Rattle.reader_items.specs.Private.{Sane, afterItem, isSibling, goesOn, risen}
+use Rattle.reader_model.specs.State.{stopped, keeping, withCore, withWalk, movedTo}
+use Rattle.reader_model.specs.Items.{sane, atHeight, climbed, afterSibling, afterItem, advanced}
+use Rattle.reader_items.specs.Private.{Sane, isSibling, goesOn, risen}
 
 -- A choice whose test holds, and one whose test fails.
 pub taken : {A : Type 0} {b : Bool} {x : A} (y : A) → b ≡ true → x ≡ cond b x y
@@ -61,16 +61,15 @@ place-bounds fill start e = (leb-true _ _ (and-fst (leb fill 32) _ e), ltb-true 
 
 -- A whole item at a stage that is known: where the tables stay, and in general.
 pub item-at : {x : Reader} (c : Core) (t : Tables) (stage : Stage) → c .stage ≡ stage
-    → x ≡ record { core = dispatched sha256 stage c t; tables = kept sha256 stage c t } → x ≡ afterItem c t
-item-at c t stage told e = e ∙ ap (λ (k : Stage). record { core = dispatched sha256 k c t; tables = kept sha256 k c t }) (sym told)
+    → x ≡ afterItem sha256 stage c t → x ≡ afterItem sha256 (c .stage) c t
+item-at c t stage told e = e ∙ ap (λ (k : Stage). afterItem sha256 k c t) (sym told)
 
-pub core-at : {r : Core} (c : Core) (t : Tables) (stage : Stage) → c .stage ≡ stage → t ≡ kept sha256 stage c t
-    → r ≡ dispatched sha256 stage c t → record { core = r; tables = t } ≡ afterItem c t
-core-at c t stage told same e =
-    item-at c t stage told (ap₂ (λ (d : Core) (u : Tables). record { core = d; tables = u }) e same)
+pub core-at : {r next : Core} (c : Core) (t : Tables) (stage : Stage) → c .stage ≡ stage → keeping t next ≡ afterItem sha256 stage c t
+    → r ≡ next → keeping t r ≡ afterItem sha256 (c .stage) c t
+core-at c t stage told same e = item-at c t stage told (ap (keeping t) e ∙ same)
 
 -- The state after a whole item, where it is sane and where it is not.
-pub advanced-sane : {x : Reader} (r : Reader) → sane (r .core) ≡ true → x ≡ afterItem (r .core) (r .tables) → x ≡ advanced sha256 r
+pub advanced-sane : {x : Reader} (r : Reader) → sane (r .core) ≡ true → x ≡ afterItem sha256 (r .core .stage) (r .core) (r .tables) → x ≡ advanced sha256 r
 unfolding advanced
 advanced-sane r ok e = e ∙ taken _ ok
 

@@ -7,10 +7,8 @@ use Rattle.params.specs.Parameters.{height}
 use Rattle.reader_model.specs.declared.Stage.{Stage}
 use Rattle.reader_model.specs.declared.Stage.the-variants.{ParameterCount, Parameters, RootCount, Root, CoefficientCount, Coefficient, QueryCount, Value, Sibling, Tail, Stopped}
 use Rattle.reader_model.specs.declared.Core.{Core}
-use Rattle.reader_model.specs.declared.Tables.{Tables}
-use Rattle.reader_model.specs.declared.Reader.{Reader}
 use Rattle.reader_model.specs.State.{withWalk, movedTo}
-use Rattle.reader_model.specs.Items.{sane, atHeight, climbed, dispatched, kept}
+use Rattle.reader_model.specs.Items.{sane, atHeight, climbed}
 
 -- The bounds of a sane state, as facts.
 pub record Sane (c : Core) : Type 0 where
@@ -21,10 +19,6 @@ pub record Sane (c : Core) : Type 0 where
   pub layer : c .cursor .layer < 16
   pub value : c .cursor .value < 4
   pub height : c .cursor .height < 32
-
--- The state after a whole item of a sane state.
-abbrev pub afterItem : Core → Tables → Reader
-afterItem c t = record { core = dispatched sha256 (c .stage) c t; tables = kept sha256 (c .stage) c t }
 
 abbrev pub isSibling : Stage → Bool
 isSibling ParameterCount = false

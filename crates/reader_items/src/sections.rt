@@ -13,7 +13,10 @@ use crate::state::moved;
 use crate::state::refuse;
 use felt::Felt;
 use params::Params;
+use reader_model::CHALLENGES;
+use reader_model::COEFFICIENTS;
 use reader_model::Core;
+use reader_model::ROOTS;
 use reader_model::Stage;
 use transcript::Transcript;
 
@@ -60,7 +63,7 @@ pub fn after_parameters(c: Core) -> Core
 }
 
 // A root goes to its layer's place.
-fn put_root(roots: &mut [u8; 512], layer: usize, root: [u8; 32])
+fn put_root(roots: &mut [u8; ROOTS], layer: usize, root: [u8; 32])
     requires { ⌜ layer < 16 ⌝ }
     ensures { λ _. ⌜ now (roots .exit) ≡ sets (now (roots .entry)) (32 * layer) root ⌝ }
 {
@@ -73,7 +76,7 @@ fn put_root(roots: &mut [u8; 512], layer: usize, root: [u8; 32])
 }
 
 // A root is absorbed before its challenge is drawn; both are kept.
-pub fn after_root(c: Core, roots: &mut [u8; 512], challenges: &mut [u32; 16]) -> Core
+pub fn after_root(c: Core, roots: &mut [u8; ROOTS], challenges: &mut [u32; CHALLENGES]) -> Core
     requires { ⌜ Sane c ⌝ }
     ensures core { λ r. ⌜ r ≡ afterRoot sha256 c ⌝ }
     ensures roots { λ _. ⌜ now (roots .exit) ≡ rootsAfter sha256 c (now (roots .entry)) ⌝ }
@@ -103,7 +106,7 @@ pub fn after_root(c: Core, roots: &mut [u8; 512], challenges: &mut [u32; 16]) ->
 }
 
 // The transcript after the first count of the coefficients.
-fn absorbed_final(state: [u8; 32], coefficients: [u32; 64], count: usize) -> [u8; 32]
+fn absorbed_final(state: [u8; 32], coefficients: [u32; COEFFICIENTS], count: usize) -> [u8; 32]
     ensures { λ r. ⌜ r ≡ finish sha256 state (take count coefficients) ⌝ }
 {
     let after = Transcript { state: state }.absorb_final(coefficients, count);
@@ -111,7 +114,7 @@ fn absorbed_final(state: [u8; 32], coefficients: [u32; 64], count: usize) -> [u8
 }
 
 // A final coefficient is kept; after the last one all are absorbed, and the queries can be drawn.
-pub fn after_coefficient(c: Core, coefficients: &mut [u32; 64]) -> Core
+pub fn after_coefficient(c: Core, coefficients: &mut [u32; COEFFICIENTS]) -> Core
     requires { ⌜ Sane c ⌝ }
     ensures core { λ r. ⌜ r ≡ afterCoefficient sha256 c (now (coefficients .entry)) ⌝ }
     ensures coefficients { λ _. ⌜ now (coefficients .exit) ≡ coefficientsAfter sha256 c (now (coefficients .entry)) ⌝ }

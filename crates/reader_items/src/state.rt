@@ -7,12 +7,15 @@ ghost use Rattle.reader_model.specs.Items.{sane, refused};
 ghost use Rattle.reader_model.specs.Model.{isStopped, isTail, openAnswer, answerOf};
 ghost use Rattle.reader_items.specs.Private.{isSibling};
 use answer::Answer;
-use params::Params;
+use reader_model::CHALLENGES;
+use reader_model::COEFFICIENTS;
 use reader_model::Core;
 use reader_model::Cursor;
+use reader_model::ROOTS;
 use reader_model::Reader;
 use reader_model::Stage;
 use reader_model::Tables;
+use reader_model::VALUES;
 use reader_model::Walk;
 
 // The number of bytes of a stage's item.
@@ -37,19 +40,7 @@ pub fn item_length(stage: Stage) -> usize
 pub fn is_stopped(stage: Stage) -> bool
     ensures { λ r. ⌜ r ≡ isStopped stage ⌝ }
 {
-    match stage {
-        Stage::ParameterCount => false,
-        Stage::Parameters => false,
-        Stage::RootCount => false,
-        Stage::Root => false,
-        Stage::CoefficientCount => false,
-        Stage::Coefficient => false,
-        Stage::QueryCount => false,
-        Stage::Value => false,
-        Stage::Sibling => false,
-        Stage::Tail => false,
-        Stage::Stopped => true,
-    }
+    item_length(stage) == 0
 }
 
 pub fn is_sibling(stage: Stage) -> bool
@@ -74,19 +65,7 @@ pub fn is_sibling(stage: Stage) -> bool
 pub fn is_tail(stage: Stage) -> bool
     ensures { λ r. ⌜ r ≡ isTail stage ⌝ }
 {
-    match stage {
-        Stage::ParameterCount => false,
-        Stage::Parameters => false,
-        Stage::RootCount => false,
-        Stage::Root => false,
-        Stage::CoefficientCount => false,
-        Stage::Coefficient => false,
-        Stage::QueryCount => false,
-        Stage::Value => false,
-        Stage::Sibling => false,
-        Stage::Tail => true,
-        Stage::Stopped => false,
-    }
+    item_length(stage) == 1
 }
 
 pub fn no_cursor() -> Cursor
@@ -108,7 +87,7 @@ pub fn no_walk() -> Walk
     Walk {
         index: 0,
         position: 0,
-        values: [0u32; 4],
+        values: [0u32; VALUES],
         scale: 0,
         folded: 0,
         node: [0u8; 32],
@@ -119,9 +98,9 @@ pub fn no_tables() -> Tables
     ensures { λ r. ⌜ r ≡ noTables ⌝ }
 {
     Tables {
-        roots: [0u8; 512],
-        challenges: [0u32; 16],
-        coefficients: [0u32; 64],
+        roots: [0u8; ROOTS],
+        challenges: [0u32; CHALLENGES],
+        coefficients: [0u32; COEFFICIENTS],
     }
 }
 
@@ -129,6 +108,8 @@ pub fn no_tables() -> Tables
 pub fn halt(number: u8, place: u32) -> Core
     ensures { λ r. ⌜ r ≡ stopped (answered number place) ⌝ }
 {
+    let zeros = [0u8; params::HEADER_SIZE];
+    let params = params::from_header(&zeros);
     let cursor = no_cursor();
     let walk = no_walk();
     Core {
@@ -139,12 +120,7 @@ pub fn halt(number: u8, place: u32) -> Core
         },
         fill: 0,
         item: [0u8; 32],
-        params: Params {
-            n: 0,
-            b: 0,
-            k: 0,
-            q: 0,
-        },
+        params: params,
         cursor: cursor,
         walk: walk,
         transcript: [0u8; 32],

@@ -11,7 +11,7 @@ use Rattle.answer.specs.Table.{not-the-folded-value, path-misses-root, misses-f
 use Rattle.message.specs.Message.{Digest}
 use Rattle.params.specs.Parameters.{indexBits, depth, valuesPerLeaf, height}
 use Rattle.domain.specs.Domain.{point}
-use Rattle.merkle.specs.Merkle.{leaf, join}
+use Rattle.merkle.specs.Merkle.{leafDigest, join}
 use Rattle.transcript.specs.Transcript.{absorb, challenge, drawn, absorbed}
 use Rattle.fold.specs.Poly.{eval}
 use Rattle.fold.specs.Fold.{anything, expected, fits}
@@ -23,18 +23,18 @@ use Rattle.reader_model.specs.declared.Tables.{Tables}
 use Rattle.reader_model.specs.State.{place, movedTo, withWalk}
 use Rattle.reader_model.specs.Items.{numberOf, finals, valuesWith, leafOf, leafIndex, leafPoint, linked, rooted, finished, atQuery, atLeaf, afterLeaf, afterValue, climbed, nextQuery, nextLayer, afterPath, afterSibling}
 use Rattle.reader_model.proofs.Filled.{Filled, filled-set, filled-take, filled-at, filled-block, challenges, challenges-append, challenges-length, absorbed-snoc}
-use Rattle.reader_model.proofs.Rest.{numbered, wanted, opening, toQueries, Late, Walking, toNext, toLayers, withNode, toSiblings, withLeaf, withValue, walk-is, siblings-more, siblings-none, at-cursor, with-values, Sound, WalkingAt, value, sibling, After, goes, ends}
+use Rattle.reader_model.proofs.Rest.{numbered, wanted, toQueries, Late, Walking, toNext, toLayers, withNode, toSiblings, withLeaf, withValue, walk-is, siblings-more, siblings-none, at-cursor, with-values, Sound, WalkingAt, value, sibling, After, goes, ends}
 use Rattle.reader_model.proofs.Stages.{finals-are, pred-of, leaves-as, leaves-true, leaves-false, tested, after-number}
 
-module _ (hash : List ℕ → Digest) (context : List ℕ) (c : Core) (t : Tables) (s : Sound c) where
+module _ (hash : List ℕ → Digest) (first : Digest) (c : Core) (t : Tables) (s : Sound c) where
   -- The start of a query's walk.
-  pub begin-query : (roots : List Digest) (final : List ℕ) (i more : ℕ) → Late hash (c .params) context (c .transcript) t roots final
+  pub begin-query : (roots : List Digest) (final : List ℕ) (i more : ℕ) → Late hash (c .params) first (c .transcript) t roots final
       → suc i + more ≡ c .params .q
-      → After hash context (movedTo (atQuery hash c i) Value) t (place c) (toQueries hash (c .params) context roots final (suc more) i)
+      → After hash first (movedTo (atQuery hash c i) Value) t (place c) (toQueries hash (c .params) first roots final (suc more) i)
   unfolding atQuery queries _>>_ absorbed
   begin-query [] final i more l total = absurd (omega (arith, l .all-roots))
   begin-query (root ∷ after) final i more l total =
-      let w : Walking hash (c .params) context i 0 (c .transcript) t = record {
+      let w : Walking hash (c .params) first i 0 (c .transcript) t = record {
         roots = root ∷ after;
         final = final;
         late = l;
@@ -45,7 +45,7 @@ module _ (hash : List ℕ → Digest) (context : List ℕ) (c : Core) (t : Table
         after = after;
         roots-are = refl;
         layer-is = refl;
-        earlier = opening hash (c .params) context;
+        earlier = first;
         earlier-is = refl;
       } in
       let (rest, values-are) = pred-of (valuesPerLeaf (c .params)) (omega arith) in
@@ -53,23 +53,23 @@ module _ (hash : List ℕ → Digest) (context : List ℕ) (c : Core) (t : Table
       (goes
       (at-cursor s (omega arith) (omega arith) (omega arith) (omega arith) (omega arith))
       (value w {values = []} rest refl (record { sized = s .values-size; starts = refl }) refl (omega arith)) refl refl)
-      (sym (walk-is hash (c .params) context w (drawn hash (c .transcript) (indexBits (c .params)) i) anything rest values-are)
+      (sym (walk-is hash (c .params) first w (drawn hash (c .transcript) (indexBits (c .params)) i) anything rest values-are)
       ∙ ap (λ u. walk hash (c .params) final 0 (drawn hash u (indexBits (c .params)) i) anything (w .earlier) (root ∷ after)
-      (λ _. toNext hash (c .params) context w)) (l .transcript-is))
+      (λ _. toNext hash (c .params) first w)) (l .transcript-is))
 
   -- The end of a query.
-  next-query : (roots : List Digest) (final : List ℕ) (more : ℕ) → Late hash (c .params) context (c .transcript) t roots final
+  next-query : (roots : List Digest) (final : List ℕ) (more : ℕ) → Late hash (c .params) first (c .transcript) t roots final
       → suc (c .cursor .query) + more ≡ c .params .q
-      → After hash context (nextQuery hash c) t (place c) (toQueries hash (c .params) context roots final more (suc (c .cursor .query)))
+      → After hash first (nextQuery hash c) t (place c) (toQueries hash (c .params) first roots final more (suc (c .cursor .query)))
   unfolding nextQuery queries pure
   next-query roots final zero l total = leaves-false _ _ (le-ltb (c .cursor .query + 1) (c .params .q) (omega arith)) (ends s refl refl refl)
   next-query roots final (suc more) l total =
       leaves-true _ _ (lt-ltb (c .cursor .query + 1) (c .params .q) (omega arith))
-      (subst (λ i. After hash context (movedTo (atQuery hash c i) Value) t (place c)
-      (toQueries hash (c .params) context roots final (suc more) (suc (c .cursor .query)))) (sym (add-one (c .cursor .query)))
+      (subst (λ i. After hash first (movedTo (atQuery hash c i) Value) t (place c)
+      (toQueries hash (c .params) first roots final (suc more) (suc (c .cursor .query)))) (sym (add-one (c .cursor .query)))
       (begin-query roots final (suc (c .cursor .query)) more l (omega arith)))
 
-  module _ (w : WalkingAt hash context c t) where
+  module _ (w : WalkingAt hash first c t) where
     -- The layers before, this one, and those after it are all layers.
     layers-are : c .cursor .layer + suc (length (w .after)) ≡ c .params .k
     layers-are =
@@ -80,7 +80,7 @@ module _ (hash : List ℕ → Digest) (context : List ℕ) (c : Core) (t : Table
     -- The layer's challenge, its root and the final polynomial are those in the tables.
     challenge-is : getD (t .challenges) (c .cursor .layer) 0 ≡ challenge hash (absorb hash (w .earlier) (w .root))
     challenge-is =
-        let s₀ = opening hash (c .params) context in
+        let s₀ = first in
         filled-at (challenges hash s₀ (w .before)) _ _
         (rw (w .roots-are, challenges-append hash s₀ (w .before) (w .root) (w .after)) at (w .late .read .challenges-kept))
         (c .cursor .layer) (challenges-length hash s₀ (w .before) ∙ w .layer-is)
@@ -103,8 +103,8 @@ module _ (hash : List ℕ → Digest) (context : List ℕ) (c : Core) (t : Table
     -- A value after these, with as many more after it.
     pub after-value : {values : List ℕ} (more : ℕ) → c .cursor .height ≡ 0 → Filled 4 values (c .walk .values) → length values ≡ c .cursor .value
         → length values + suc more ≡ valuesPerLeaf (c .params)
-        → After hash context (afterValue hash c (t .challenges)) t (place c)
-        (numbered (withValue hash (c .params) context w (c .walk .index) (wanted (c .walk)) values more) (take 4 (c .item)))
+        → After hash first (afterValue hash c (t .challenges)) t (place c)
+        (numbered (withValue hash (c .params) first w (c .walk .index) (wanted (c .walk)) values more) (take 4 (c .item)))
     unfolding afterValue afterLeaf linked atLeaf many number pure _>>=_ _>>_ bytes
     after-value {values} zero h f e total =
         let (left, height-is) = pred-of (height (c .params) (c .cursor .layer)) (omega (arith, layers-are)) in
@@ -112,19 +112,19 @@ module _ (hash : List ℕ → Digest) (context : List ℕ) (c : Core) (t : Table
         filled-take (filled-set f (c .cursor .value) (numberOf c) e (omega arith)) (valuesPerLeaf (c .params)) (rw length-append (omega arith)) in
         let β = getD (t .challenges) (c .cursor .layer) 0 in
         let vs = leafOf c (valuesWith c) in
-        after-number c t (withValue hash (c .params) context w (c .walk .index) (wanted (c .walk)) values zero) (λ _.
+        after-number c t (withValue hash (c .params) first w (c .walk .index) (wanted (c .walk)) values zero) (λ _.
         leaves-false _ _ (le-ltb (c .cursor .value + 1) (valuesPerLeaf (c .params)) (omega arith))
         (tested c _ _ not-the-folded-value _
         (ap (λ u. fits (wanted (c .walk)) (valueAt (c .params) (c .cursor .layer) (c .walk .index) u)) all) (λ _.
         leaves-as (goes (with-values s (length-set (c .walk .values) (c .cursor .value) (numberOf c) ∙ s .values-size)) (sibling w left (omega arith)) refl refl)
-        (sym (siblings-more hash (c .params) context w (leafIndex c) (expected (leafPoint c) β vs) left (leaf hash vs) (leafIndex c))
-        ∙ ap₂ (λ u d. toSiblings hash (c .params) context w (leafIndex c) (expected (leafPoint c) u vs) d (leaf hash vs) (leafIndex c))
+        (sym (siblings-more hash (c .params) first w (leafIndex c) (expected (leafPoint c) β vs) left (leafDigest hash (c .cursor .layer) vs) (leafIndex c))
+        ∙ ap₂ (λ u d. toSiblings hash (c .params) first w (leafIndex c) (expected (leafPoint c) u vs) d (leafDigest hash (c .cursor .layer) vs) (leafIndex c))
         challenge-is (sym height-is)
-        ∙ ap (λ u. toSiblings hash (c .params) context w (leafIndex c)
-        (expected (leafPoint c) (challenge hash (absorb hash (w .earlier) (w .root))) u) (height (c .params) (c .cursor .layer)) (leaf hash u) (leafIndex c))
+        ∙ ap (λ u. toSiblings hash (c .params) first w (leafIndex c)
+        (expected (leafPoint c) (challenge hash (absorb hash (w .earlier) (w .root))) u) (height (c .params) (c .cursor .layer)) (leafDigest hash (c .cursor .layer) u) (leafIndex c))
         all))))
     after-value {values} (suc more) h f e total =
-        after-number c t (withValue hash (c .params) context w (c .walk .index) (wanted (c .walk)) values (suc more)) (λ _.
+        after-number c t (withValue hash (c .params) first w (c .walk .index) (wanted (c .walk)) values (suc more)) (λ _.
         leaves-true _ _ (lt-ltb (c .cursor .value + 1) (valuesPerLeaf (c .params)) (omega arith))
         (leaves-as
         (goes
@@ -134,25 +134,25 @@ module _ (hash : List ℕ → Digest) (context : List ℕ) (c : Core) (t : Table
         (rw length-append (omega arith)))
         refl refl)
         (ap (many (suc more) number) (fun-ext (λ rest.
-        ap (withLeaf hash (c .params) context w (c .walk .index) (wanted (c .walk))) (append-assoc values (numberOf c ∷ []) rest))))))
+        ap (withLeaf hash (c .params) first w (c .walk .index) (wanted (c .walk))) (append-assoc values (numberOf c ∷ []) rest))))))
 
     -- The end of a layer.
-    next-layer : After hash context (nextLayer hash c (t .coefficients)) t (place c)
-        (toLayers hash (c .params) context w (c .walk .index) (wanted (c .walk)))
+    next-layer : After hash first (nextLayer hash c (t .coefficients)) t (place c)
+        (toLayers hash (c .params) first w (c .walk .index) (wanted (c .walk)))
     unfolding nextLayer walk
     next-layer = go (w .after) refl
       where
         go : (after : List Digest) → w .after ≡ after
-            → After hash context (nextLayer hash c (t .coefficients)) t (place c)
+            → After hash first (nextLayer hash c (t .coefficients)) t (place c)
             (walk hash (c .params) (w .final) (suc (c .cursor .layer)) (c .walk .index) (wanted (c .walk)) (absorb hash (w .earlier) (w .root)) after
-            (λ _. toNext hash (c .params) context w))
+            (λ _. toNext hash (c .params) first w))
         go [] e =
             let last : suc (c .cursor .layer) ≡ c .params .k = omega (arith, layers-are, ap length e) in
             leaves-false _ _ (le-ltb (c .cursor .layer + 1) (c .params .k) (omega arith))
             (tested c _ _ misses-final-polynomial _ (finished-is last) (λ _. next-query (w .roots) (w .final) (w .more) (w .late) (w .queries-are)))
         go (root ∷ after) e =
             let inside : c .cursor .layer + suc (suc (length after)) ≡ c .params .k = omega (arith, layers-are, ap length e) in
-            let w′ : Walking hash (c .params) context (c .cursor .query) (c .cursor .layer + 1) (c .transcript) t = record {
+            let w′ : Walking hash (c .params) first (c .cursor .query) (c .cursor .layer + 1) (c .transcript) t = record {
               roots = w .roots;
               final = w .final;
               late = w .late;
@@ -166,7 +166,7 @@ module _ (hash : List ℕ → Digest) (context : List ℕ) (c : Core) (t : Table
               earlier = absorb hash (w .earlier) (w .root);
               earlier-is =
                   ap (λ u. absorb hash u (w .root)) (w .earlier-is)
-                  ∙ sym (absorbed-snoc hash (opening hash (c .params) context) (w .before) (w .root));
+                  ∙ sym (absorbed-snoc hash first (w .before) (w .root));
             } in
             let (rest, values-are) = pred-of (valuesPerLeaf (c .params)) (omega arith) in
             leaves-true _ _ (lt-ltb (c .cursor .layer + 1) (c .params .k) (omega arith))
@@ -174,31 +174,31 @@ module _ (hash : List ℕ → Digest) (context : List ℕ) (c : Core) (t : Table
             (goes
             (at-cursor s (omega arith) (omega arith) (omega arith) (omega arith) (omega arith))
             (value w′ {values = []} rest refl (record { sized = s .values-size; starts = refl }) refl (omega arith)) refl refl)
-            (sym (walk-is hash (c .params) context w′ (c .walk .index) (wanted (c .walk)) rest values-are)
+            (sym (walk-is hash (c .params) first w′ (c .walk .index) (wanted (c .walk)) rest values-are)
             ∙ ap (λ j. walk hash (c .params) (w .final) j (c .walk .index) (wanted (c .walk)) (w′ .earlier) (root ∷ after)
-            (λ _. toNext hash (c .params) context w)) (add-one (c .cursor .layer))))
+            (λ _. toNext hash (c .params) first w)) (add-one (c .cursor .layer))))
 
     -- The end of a path.
-    pub after-path : After hash context (afterPath hash c (t .roots) (t .coefficients)) t (place c)
-        (withNode hash (c .params) context w (c .walk .index) (wanted (c .walk)) (c .walk .node))
+    pub after-path : After hash first (afterPath hash c (t .roots) (t .coefficients)) t (place c)
+        (withNode hash (c .params) first w (c .walk .index) (wanted (c .walk)) (c .walk .node))
     unfolding afterPath rooted
     after-path = tested c _ _ path-misses-root _ (ap (sameBytes (c .walk .node)) root-is) (λ _. next-layer)
 
 -- A sibling, with as many more after it.
-module _ (hash : List ℕ → Digest) (context : List ℕ) (c : Core) (t : Tables) (s : Sound c) (w : WalkingAt hash context c t) where
+module _ (hash : List ℕ → Digest) (first : Digest) (c : Core) (t : Tables) (s : Sound c) (w : WalkingAt hash first c t) where
   pub after-sibling : (more : ℕ) → c .cursor .height + suc more ≡ height (c .params) (c .cursor .layer)
-      → After hash context (afterSibling hash c (t .roots) (t .coefficients)) t (place c)
-      (toSiblings hash (c .params) context w (c .walk .index) (wanted (c .walk)) more (join hash (c .walk .position % 2) (c .walk .node) (c .item))
+      → After hash first (afterSibling hash c (t .roots) (t .coefficients)) t (place c)
+      (toSiblings hash (c .params) first w (c .walk .index) (wanted (c .walk)) more (join hash (c .walk .position % 2) (c .walk .node) (c .item))
       (c .walk .position / 2))
   unfolding afterSibling climbed
   after-sibling zero h =
       leaves-false _ _ (le-ltb (c .cursor .height + 1) (height (c .params) (c .cursor .layer)) (omega arith))
-      (leaves-as (after-path hash context (withWalk c (climbed hash c)) t s w)
-      (sym (siblings-none hash (c .params) context w (c .walk .index) (wanted (c .walk)) (climbed hash c .node) (c .walk .position / 2))))
+      (leaves-as (after-path hash first (withWalk c (climbed hash c)) t s w)
+      (sym (siblings-none hash (c .params) first w (c .walk .index) (wanted (c .walk)) (climbed hash c .node) (c .walk .position / 2))))
   after-sibling (suc more) h =
       leaves-true _ _ (lt-ltb (c .cursor .height + 1) (height (c .params) (c .cursor .layer)) (omega arith))
       (leaves-as
       (goes
       (at-cursor s (omega arith) (omega arith) (omega arith) (omega arith) (omega arith))
       (sibling w more (omega arith)) refl refl)
-      (sym (siblings-more hash (c .params) context w (c .walk .index) (wanted (c .walk)) more (climbed hash c .node) (c .walk .position / 2))))
+      (sym (siblings-more hash (c .params) first w (c .walk .index) (wanted (c .walk)) more (climbed hash c .node) (c .walk .position / 2))))

@@ -12,11 +12,11 @@ use Rattle.message.proofs.Bytes.{Sized}
 use Rattle.params.specs.declared.Params.{Params}
 use Rattle.params.specs.Parameters.{Valid, headerSize, header, finalCount, depth, valuesPerLeaf, height, leafCount}
 use Rattle.domain.specs.Domain.{point}
-use Rattle.merkle.specs.Merkle.{climb, leaf, join}
-use Rattle.transcript.specs.Transcript.{start, absorb, challenge, finish, absorbed}
+use Rattle.merkle.specs.Merkle.{climb, leafDigest, join}
+use Rattle.transcript.specs.Transcript.{absorb, challenge, finish, absorbed}
 use Rattle.fold.specs.Fold.{Expected, expected, fits}
 use Rattle.fri.specs.Process.{Process, bytes, ensure, many, pure, _>>=_, _>>_, done, fail, need}
-use Rattle.fri.specs.Judge.{sameBytes, valueAt, count, number, walk, queries, sections, judgement}
+use Rattle.fri.specs.Judge.{sameBytes, valueAt, count, number, walk, queries, sections}
 use Rattle.reader_model.specs.declared.Stage.{Stage}
 use Rattle.reader_model.specs.declared.Stage.the-variants.{ParameterCount, Parameters, RootCount, Root, CoefficientCount, Coefficient, QueryCount, Value, Sibling, Tail}
 use Rattle.reader_model.specs.declared.Cursor.{Cursor}
@@ -37,17 +37,14 @@ numbered rest four = ensure (ltb (num four) modulus) not-below-modulus (λ _. re
 abbrev pub wanted : Walk → Expected
 wanted w = record { scale = w .scale; folded = w .folded }
 
-module _ (hash : List ℕ → Digest) (p : Params) (context : List ℕ) where
-  -- The transcript at the start, and the one that draws the queries.
-  abbrev pub opening : Digest
-  opening = start hash (header p) context
-
+module _ (hash : List ℕ → Digest) (p : Params) (first : Digest) where
+  -- The transcript that draws the queries, where `first` is the one before the roots.
   abbrev pub drawing : List Digest → List ℕ → Digest
-  drawing roots final = finish hash (absorbed hash opening roots) final
+  drawing roots final = finish hash (absorbed hash first roots) final
 
   -- What is left before count queries from query i on; before the sections 4, 3 and 2; and with the bytes of the parameters.
   abbrev pub toQueries : List Digest → List ℕ → ℕ → ℕ → Process
-  toQueries roots final count i = queries hash p count i final (drawing roots final) opening roots (λ _. done)
+  toQueries roots final count i = queries hash p count i final (drawing roots final) first roots (λ _. done)
 
   abbrev pub toSection4 : List Digest → List ℕ → Process
   toSection4 roots final = need 2 (counting (p .q) (toQueries roots final (p .q) 0))
@@ -68,22 +65,22 @@ module _ (hash : List ℕ → Digest) (p : Params) (context : List ℕ) where
   abbrev pub withCoefficient : List Digest → List ℕ → ℕ → ℕ → Process
   withCoefficient roots final more v = many more number (λ rest. toSection4 roots (final ++ v ∷ rest))
 
-  pub judgement-is : judgement hash p context ≡ need 2 (counting headerSize (need headerSize withParameters))
-  unfolding judgement sections _>>=_ _>>_ bytes count
-  judgement-is = refl
+  pub sections-are : sections hash p first (λ _. done) ≡ need 2 (counting headerSize (need headerSize withParameters))
+  unfolding sections _>>=_ _>>_ bytes count
+  sections-are = refl
 
   -- The tables hold these roots with their challenges, and these coefficients.
   pub record Read (t : Tables) (roots : List Digest) (final : List ℕ) : Type 0 where
     pub sized : Sized 32 roots
     pub roots-kept : Filled 512 (joined roots) (t .roots)
-    pub challenges-kept : Filled 16 (challenges hash opening roots) (t .challenges)
+    pub challenges-kept : Filled 16 (challenges hash first roots) (t .challenges)
     pub final-kept : Filled 64 final (t .coefficients)
 
   -- In sections 1 to 3: so much is read, the next coefficient and the transcript follow it.
   pub record Early (coefficient : ℕ) (transcript : Digest) (t : Tables) (roots : List Digest) (final : List ℕ) : Type 0 where
     pub read : Read t roots final
     pub coefficient-next : length final ≡ coefficient
-    pub transcript-is : transcript ≡ absorbed hash opening roots
+    pub transcript-is : transcript ≡ absorbed hash first roots
 
   -- In section 4: the sections before it are read, and the transcript draws the queries.
   pub record Late (transcript : Digest) (t : Tables) (roots : List Digest) (final : List ℕ) : Type 0 where
@@ -105,7 +102,7 @@ module _ (hash : List ℕ → Digest) (p : Params) (context : List ℕ) where
     pub roots-are : roots ≡ before ++ root ∷ after
     pub layer-is : length before ≡ layer
     pub earlier : Digest
-    pub earlier-is : earlier ≡ absorbed hash opening before
+    pub earlier-is : earlier ≡ absorbed hash first before
 
   module _ {query layer : ℕ} {transcript : Digest} {t : Tables} (w : Walking query layer transcript t) where
     -- What is left after the query; after the layer, at the index m, where the next value must meet e; with the node that a path ends on; and before
@@ -128,7 +125,7 @@ module _ (hash : List ℕ → Digest) (p : Params) (context : List ℕ) where
         ensure (fits e (valueAt p layer m values)) not-the-folded-value
         (λ _. toSiblings (m % leafCount p layer)
         (expected (point (p .n) (depth p layer) (m % leafCount p layer)) (challenge hash (absorb hash (w .earlier) (w .root))) values)
-        (height p layer) (leaf hash values) (m % leafCount p layer))
+        (height p layer) (leafDigest hash layer values) (m % leafCount p layer))
 
     abbrev pub withValue : ℕ → Expected → List ℕ → ℕ → ℕ → Process
     withValue m e values more v = many more number (λ rest. withLeaf m e (values ++ v ∷ rest))
@@ -191,36 +188,36 @@ abbrev pub Sound : Core → Type 0
 Sound c =
     Bounds (c .params) (c .item) (c .walk .values) (c .cursor .coefficient) (c .cursor .query) (c .cursor .layer) (c .cursor .value) (c .cursor .height)
 
-module _ (hash : List ℕ → Digest) (context : List ℕ) where
+module _ (hash : List ℕ → Digest) (first : Digest) where
   abbrev pub EarlyAt : Core → Tables → List Digest → List ℕ → Type 0
-  EarlyAt c t roots final = Early hash (c .params) context (c .cursor .coefficient) (c .transcript) t roots final
+  EarlyAt c t roots final = Early hash (c .params) first (c .cursor .coefficient) (c .transcript) t roots final
 
   abbrev pub WalkingAt : Core → Tables → Type 0
-  WalkingAt c t = Walking hash (c .params) context (c .cursor .query) (c .cursor .layer) (c .transcript) t
+  WalkingAt c t = Walking hash (c .params) first (c .cursor .query) (c .cursor .layer) (c .transcript) t
 
   -- A state with these parts waits for an item of so many bytes, and with them this is left.
   pub data Waiting (p : Params) (c : Cursor) (w : Walk) (transcript : Digest) (t : Tables) : Stage → ℕ → (List ℕ → Process) → Type 0 where
-    parameter-count : Early hash p context (c .coefficient) transcript t [] [] → c .layer ≡ 0
-        → Waiting p c w transcript t ParameterCount 2 (counting headerSize (need headerSize (withParameters hash p context)))
-    parameters : Early hash p context (c .coefficient) transcript t [] [] → c .layer ≡ 0
-        → Waiting p c w transcript t Parameters headerSize (withParameters hash p context)
-    root-count : Early hash p context (c .coefficient) transcript t [] [] → c .layer ≡ 0
-        → Waiting p c w transcript t RootCount 2 (counting (p .k) (many (p .k) (bytes 32) (toSection3 hash p context)))
-    root : {roots : List Digest} (more : ℕ) → Early hash p context (c .coefficient) transcript t roots [] → c .layer ≡ length roots
-        → length roots + suc more ≡ p .k → Waiting p c w transcript t Root 32 (withRoot hash p context roots more)
-    coefficient-count : {roots : List Digest} → Early hash p context (c .coefficient) transcript t roots [] → length roots ≡ p .k
-        → Waiting p c w transcript t CoefficientCount 2 (counting (finalCount p) (many (finalCount p) number (toSection4 hash p context roots)))
-    coefficient : {roots : List Digest} {final : List ℕ} (more : ℕ) → Early hash p context (c .coefficient) transcript t roots final
+    parameter-count : Early hash p first (c .coefficient) transcript t [] [] → c .layer ≡ 0
+        → Waiting p c w transcript t ParameterCount 2 (counting headerSize (need headerSize (withParameters hash p first)))
+    parameters : Early hash p first (c .coefficient) transcript t [] [] → c .layer ≡ 0
+        → Waiting p c w transcript t Parameters headerSize (withParameters hash p first)
+    root-count : Early hash p first (c .coefficient) transcript t [] [] → c .layer ≡ 0
+        → Waiting p c w transcript t RootCount 2 (counting (p .k) (many (p .k) (bytes 32) (toSection3 hash p first)))
+    root : {roots : List Digest} (more : ℕ) → Early hash p first (c .coefficient) transcript t roots [] → c .layer ≡ length roots
+        → length roots + suc more ≡ p .k → Waiting p c w transcript t Root 32 (withRoot hash p first roots more)
+    coefficient-count : {roots : List Digest} → Early hash p first (c .coefficient) transcript t roots [] → length roots ≡ p .k
+        → Waiting p c w transcript t CoefficientCount 2 (counting (finalCount p) (many (finalCount p) number (toSection4 hash p first roots)))
+    coefficient : {roots : List Digest} {final : List ℕ} (more : ℕ) → Early hash p first (c .coefficient) transcript t roots final
         → length roots ≡ p .k → length final + suc more ≡ finalCount p
-        → Waiting p c w transcript t Coefficient 4 (numbered (withCoefficient hash p context roots final more))
-    query-count : {roots : List Digest} {final : List ℕ} → Late hash p context transcript t roots final
-        → Waiting p c w transcript t QueryCount 2 (counting (p .q) (toQueries hash p context roots final (p .q) 0))
-    value : (x : Walking hash p context (c .query) (c .layer) transcript t) {values : List ℕ} (more : ℕ) → c .height ≡ 0
+        → Waiting p c w transcript t Coefficient 4 (numbered (withCoefficient hash p first roots final more))
+    query-count : {roots : List Digest} {final : List ℕ} → Late hash p first transcript t roots final
+        → Waiting p c w transcript t QueryCount 2 (counting (p .q) (toQueries hash p first roots final (p .q) 0))
+    value : (x : Walking hash p first (c .query) (c .layer) transcript t) {values : List ℕ} (more : ℕ) → c .height ≡ 0
         → Filled 4 values (w .values) → length values ≡ c .value → length values + suc more ≡ valuesPerLeaf p
-        → Waiting p c w transcript t Value 4 (numbered (withValue hash p context x (w .index) (wanted w) values more))
-    sibling : (x : Walking hash p context (c .query) (c .layer) transcript t) (more : ℕ) → c .height + suc more ≡ height p (c .layer)
+        → Waiting p c w transcript t Value 4 (numbered (withValue hash p first x (w .index) (wanted w) values more))
+    sibling : (x : Walking hash p first (c .query) (c .layer) transcript t) (more : ℕ) → c .height + suc more ≡ height p (c .layer)
         → Waiting p c w transcript t Sibling 32
-        (λ digest. toSiblings hash p context x (w .index) (wanted w) more (join hash (w .position % 2) (w .node) digest) (w .position / 2))
+        (λ digest. toSiblings hash p first x (w .index) (wanted w) more (join hash (w .position % 2) (w .node) digest) (w .position / 2))
 
   abbrev pub At : Core → Tables → Stage → ℕ → (List ℕ → Process) → Type 0
   At c t = Waiting (c .params) (c .cursor) (c .walk) (c .transcript) t

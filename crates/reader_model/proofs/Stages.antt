@@ -22,9 +22,9 @@ use Rattle.reader_model.specs.declared.Stage.the-variants.{RootCount, Ro
 use Rattle.reader_model.specs.declared.Core.{Core}
 use Rattle.reader_model.specs.declared.Tables.{Tables}
 use Rattle.reader_model.specs.State.{place, movedTo}
-use Rattle.reader_model.specs.Items.{refused, countOf, numberOf, finals, afterParameters, rootState, afterRoot, rootsAfter, challengesAfter, afterCoefficient, coefficientsAfter, kept}
+use Rattle.reader_model.specs.Items.{refused, countOf, numberOf, finals, afterParameters, rootState, afterRoot, rootsAfter, challengesAfter, afterCoefficient, coefficientsAfter, afterItem}
 use Rattle.reader_model.proofs.Filled.{filled-set, filled-sets, filled-take, sized-snoc, joined-snoc, challenges-snoc, challenges-length, absorbed-snoc}
-use Rattle.reader_model.proofs.Rest.{counting, numbered, opening, toSection2, toSection3, toSection4, withRoot, withCoefficient, withParameters, Read, Early, at-cursor, Sound, EarlyAt, root, coefficient-count, coefficient, query-count, After, goes, stops}
+use Rattle.reader_model.proofs.Rest.{counting, numbered, toSection2, toSection3, toSection4, withRoot, withCoefficient, withParameters, Read, Early, at-cursor, Sound, EarlyAt, root, coefficient-count, coefficient, query-count, After, goes, stops}
 
 -- The number of final coefficients, of valid parameters.
 pub finals-are : (c : Core) → Sound c → finals c ≡ finalCount (c .params)
@@ -39,51 +39,51 @@ pub pred-of : (x : ℕ) → 0 < x → (y : ℕ) × (x ≡ suc y)
 pred-of zero h = absurd (omega arith)
 pred-of (suc y) h = (y, refl)
 
-module _ {hash : List ℕ → Digest} {context : List ℕ} where
+module _ {hash : List ℕ → Digest} {first : Digest} where
   -- What is left, by another name.
-  pub leaves-as : {c : Core} {t : Tables} {d : ℕ} {q q′ : Process} → After hash context c t d q → q ≡ q′ → After hash context c t d q′
-  leaves-as {c = c} {t = t} {d = d} a e = subst (λ u. After hash context c t d u) e a
+  pub leaves-as : {c : Core} {t : Tables} {d : ℕ} {q q′ : Process} → After hash first c t d q → q ≡ q′ → After hash first c t d q′
+  leaves-as {c = c} {t = t} {d = d} a e = subst (λ u. After hash first c t d u) e a
 
   -- A choice of the next item, where the test holds and where it fails.
-  pub leaves-true : {x : Core} {t : Tables} {d : ℕ} {q : Process} (b : Bool) (y : Core) → b ≡ true → After hash context x t d q
-      → After hash context (cond b x y) t d q
+  pub leaves-true : {x : Core} {t : Tables} {d : ℕ} {q : Process} (b : Bool) (y : Core) → b ≡ true → After hash first x t d q
+      → After hash first (cond b x y) t d q
   leaves-true true y e a = a
   leaves-true false y e a = absurd (false≢true e)
 
-  pub leaves-false : {y : Core} {t : Tables} {d : ℕ} {q : Process} (b : Bool) (x : Core) → b ≡ false → After hash context y t d q
-      → After hash context (cond b x y) t d q
+  pub leaves-false : {y : Core} {t : Tables} {d : ℕ} {q : Process} (b : Bool) (x : Core) → b ≡ false → After hash first y t d q
+      → After hash first (cond b x y) t d q
   leaves-false true x e a = absurd (false≢true (sym e))
   leaves-false false x e a = a
 
   -- The one step of every item: the model's test is the judgement's, so either both go on or both refuse with this number at this place.
   pub tested : {x : Core} {t : Tables} (c : Core) (b b′ : Bool) (number : ℕ) (q : Unit {0} → Process) → b ≡ b′
-      → (b ≡ true → After hash context x t (place c) (q tt)) → After hash context (cond b x (refused c number)) t (place c) (ensure b′ number q)
+      → (b ≡ true → After hash first x t (place c) (q tt)) → After hash first (cond b x (refused c number)) t (place c) (ensure b′ number q)
   unfolding ensure refused
-  tested {x = x} {t = t} c true b′ number q e f = subst (λ u. After hash context x t (place c) (ensure u number q)) e (f refl)
-  tested {t = t} c false b′ number q e f = subst (λ u. After hash context (refused c number) t (place c) (ensure u number q)) e (stops refl)
+  tested {x = x} {t = t} c true b′ number q e f = subst (λ u. After hash first x t (place c) (ensure u number q)) e (f refl)
+  tested {t = t} c false b′ number q e f = subst (λ u. After hash first (refused c number) t (place c) (ensure u number q)) e (stops refl)
 
-module _ {hash : List ℕ → Digest} {context : List ℕ} (c : Core) (t : Tables) where
+module _ {hash : List ℕ → Digest} {first : Digest} (c : Core) (t : Tables) where
   -- A section's count: if it is the wanted one, the core x is next. A number: the same, if it is below the modulus. And the parameters.
-  pub after-count : {x : Core} (want want′ : ℕ) (q : Process) → want ≡ want′ → After hash context x t (place c) q
-      → After hash context (cond (eqb (countOf c) want) x (refused c count-differs)) t (place c) (counting want′ q (take 2 (c .item)))
+  pub after-count : {x : Core} (want want′ : ℕ) (q : Process) → want ≡ want′ → After hash first x t (place c) q
+      → After hash first (cond (eqb (countOf c) want) x (refused c count-differs)) t (place c) (counting want′ q (take 2 (c .item)))
   after-count want want′ q e a = tested c _ _ count-differs (λ _. q) (ap (eqb (countOf c)) e) (λ _. a)
 
-  pub after-number : {x : Core} (q : ℕ → Process) → (ltb (numberOf c) modulus ≡ true → After hash context x t (place c) (q (numberOf c)))
-      → After hash context (cond (ltb (numberOf c) modulus) x (refused c not-below-modulus)) t (place c) (numbered q (take 4 (c .item)))
+  pub after-number : {x : Core} (q : ℕ → Process) → (ltb (numberOf c) modulus ≡ true → After hash first x t (place c) (q (numberOf c)))
+      → After hash first (cond (ltb (numberOf c) modulus) x (refused c not-below-modulus)) t (place c) (numbered q (take 4 (c .item)))
   after-number q f = tested c _ _ not-below-modulus (λ _. q (numberOf c)) refl f
 
-  pub after-parameters : After hash context (movedTo c RootCount) t (place c) (toSection2 hash (c .params) context)
-      → After hash context (afterParameters c) t (place c) (withParameters hash (c .params) context (take headerSize (c .item)))
+  pub after-parameters : After hash first (movedTo c RootCount) t (place c) (toSection2 hash (c .params) first)
+      → After hash first (afterParameters c) t (place c) (withParameters hash (c .params) first (take headerSize (c .item)))
   unfolding afterParameters
-  after-parameters a = tested c _ _ parameters-differ (λ _. toSection2 hash (c .params) context) refl (λ _. a)
+  after-parameters a = tested c _ _ parameters-differ (λ _. toSection2 hash (c .params) first) refl (λ _. a)
 
-module _ {hash : List ℕ → Digest} {context : List ℕ} (c : Core) (t : Tables) (s : Sound c) where
+module _ {hash : List ℕ → Digest} {first : Digest} (c : Core) (t : Tables) (s : Sound c) where
   -- The tables and the transcript with one root more.
-  read-root : (roots : List Digest) → EarlyAt hash context c t roots [] → c .cursor .layer ≡ length roots → length roots < 16
-      → Early hash (c .params) context (c .cursor .coefficient) (rootState hash c) (kept hash Root c t) (roots ++ c .item ∷ []) []
+  read-root : (roots : List Digest) → EarlyAt hash first c t roots [] → c .cursor .layer ≡ length roots → length roots < 16
+      → Early hash (c .params) first (c .cursor .coefficient) (rootState hash c) (afterItem hash Root c t .tables) (roots ++ c .item ∷ []) []
   unfolding rootState rootsAfter challengesAfter
   read-root roots e h few =
-      let s₀ = opening hash (c .params) context in
+      let s₀ = first in
       let now : absorb hash (c .transcript) (c .item) ≡ absorb hash (absorbed hash s₀ roots) (c .item) =
       ap (λ u. absorb hash u (c .item)) (e .transcript-is) in
       record {
@@ -104,9 +104,9 @@ module _ {hash : List ℕ → Digest} {context : List ℕ} (c : Core) (t : Table
       }
 
   -- A root.
-  pub after-root : (roots : List Digest) (more : ℕ) → EarlyAt hash context c t roots [] → c .cursor .layer ≡ length roots
+  pub after-root : (roots : List Digest) (more : ℕ) → EarlyAt hash first c t roots [] → c .cursor .layer ≡ length roots
       → length roots + suc more ≡ c .params .k
-      → After hash context (afterRoot hash c) (kept hash Root c t) (place c) (withRoot hash (c .params) context roots more (c .item))
+      → After hash first (afterRoot hash c) (afterItem hash Root c t .tables) (place c) (withRoot hash (c .params) first roots more (c .item))
   unfolding afterRoot many _>>=_ bytes pure
   after-root roots zero e h total =
       leaves-false _ _ (le-ltb (c .cursor .layer + 1) (c .params .k) (omega arith))
@@ -118,11 +118,11 @@ module _ {hash : List ℕ → Digest} {context : List ℕ} (c : Core) (t : Table
       (goes (at-cursor s (omega arith) (omega arith) (omega arith) (omega arith) (omega arith))
       (root {roots = roots ++ c .item ∷ []} more (read-root roots e h (omega arith)) (rw length-append (omega arith)) (rw length-append (omega arith)))
       refl refl)
-      (ap (many (suc more) (bytes 32)) (fun-ext (λ rest. ap (toSection3 hash (c .params) context) (append-assoc roots (c .item ∷ []) rest)))))
+      (ap (many (suc more) (bytes 32)) (fun-ext (λ rest. ap (toSection3 hash (c .params) first) (append-assoc roots (c .item ∷ []) rest)))))
 
   -- The tables with one coefficient more.
-  read-coefficient : (roots : List Digest) (final : List ℕ) → EarlyAt hash context c t roots final → length final < 64
-      → ltb (numberOf c) modulus ≡ true → Read hash (c .params) context (kept hash Coefficient c t) roots (final ++ numberOf c ∷ [])
+  read-coefficient : (roots : List Digest) (final : List ℕ) → EarlyAt hash first c t roots final → length final < 64
+      → ltb (numberOf c) modulus ≡ true → Read hash (c .params) first (afterItem hash Coefficient c t .tables) roots (final ++ numberOf c ∷ [])
   unfolding coefficientsAfter
   read-coefficient roots final e few low = record {
     sized = e .read .sized;
@@ -132,15 +132,15 @@ module _ {hash : List ℕ → Digest} {context : List ℕ} (c : Core) (t : Table
   }
 
   -- A coefficient.
-  pub after-coefficient : (roots : List Digest) (final : List ℕ) (more : ℕ) → EarlyAt hash context c t roots final → length roots ≡ c .params .k
+  pub after-coefficient : (roots : List Digest) (final : List ℕ) (more : ℕ) → EarlyAt hash first c t roots final → length roots ≡ c .params .k
       → length final + suc more ≡ finalCount (c .params)
-      → After hash context (afterCoefficient hash c (t .coefficients)) (kept hash Coefficient c t) (place c)
-      (numbered (withCoefficient hash (c .params) context roots final more) (take 4 (c .item)))
+      → After hash first (afterCoefficient hash c (t .coefficients)) (afterItem hash Coefficient c t .tables) (place c)
+      (numbered (withCoefficient hash (c .params) first roots final more) (take 4 (c .item)))
   unfolding afterCoefficient many number _>>=_ _>>_ bytes pure
   after-coefficient roots final zero e full total =
       let few = final-small (c .params) (s .valid) in
       let long : length (final ++ numberOf c ∷ []) ≡ finals c = rw length-append (omega (arith, finals-are c s)) in
-      after-number c (kept hash Coefficient c t) (withCoefficient hash (c .params) context roots final zero) (λ low.
+      after-number c (afterItem hash Coefficient c t .tables) (withCoefficient hash (c .params) first roots final zero) (λ low.
       let now = read-coefficient roots final e (omega arith) low in
       leaves-false _ _ (le-ltb (c .cursor .coefficient + 1) (finals c) (omega (arith, finals-are c s, e .coefficient-next)))
       (goes (at-cursor s (omega arith) (omega arith) (omega arith) (omega arith) (omega arith))
@@ -153,7 +153,7 @@ module _ {hash : List ℕ → Digest} {context : List ℕ} (c : Core) (t : Table
       refl refl))
   after-coefficient roots final (suc more) e full total =
       let few = final-small (c .params) (s .valid) in
-      after-number c (kept hash Coefficient c t) (withCoefficient hash (c .params) context roots final (suc more)) (λ low.
+      after-number c (afterItem hash Coefficient c t .tables) (withCoefficient hash (c .params) first roots final (suc more)) (λ low.
       leaves-true _ _ (lt-ltb (c .cursor .coefficient + 1) (finals c) (omega (arith, finals-are c s, e .coefficient-next)))
       (leaves-as
       (goes (at-cursor s (omega arith) (omega arith) (omega arith) (omega arith) (omega arith))
@@ -164,4 +164,4 @@ module _ {hash : List ℕ → Digest} {context : List ℕ} (c : Core) (t : Table
       })
       full (rw length-append (omega arith)))
       refl refl)
-      (ap (many (suc more) number) (fun-ext (λ rest. ap (toSection4 hash (c .params) context roots) (append-assoc final (numberOf c ∷ []) rest))))))
+      (ap (many (suc more) number) (fun-ext (λ rest. ap (toSection4 hash (c .params) first roots) (append-assoc final (numberOf c ∷ []) rest))))))

@@ -20,12 +20,12 @@ use Rattle.params.specs.Parameters.{Valid, headerSize, finalCount, fileLength}
 use Rattle.params.proofs.ParameterLaws.{offset-small, product-small}
 use Rattle.transcript.specs.Transcript.{absorbed}
 use Rattle.fri.specs.Process.{Process, bytes, many, pure, outcome, _>>=_, _>>_, done, fail, need}
-use Rattle.fri.specs.Judge.{number, judgement, pieceAnswer, endAnswer}
+use Rattle.fri.specs.Judge.{number, sections, pieceAnswer, endAnswer}
 use Rattle.fri.proofs.Process.{Width}
-use Rattle.fri.proofs.Width.{judgement-width}
+use Rattle.fri.proofs.Width.{sections-width}
 use Rattle.calls.proofs.Follows.{ShutByte}
 use Rattle.calls.proofs.Denotes.{Denotes}
-use Rattle.calls.proofs.Within.{judgement-begins}
+use Rattle.calls.proofs.Within.{sections-begin}
 use Rattle.reader_model.specs.declared.Stage.{Stage}
 use Rattle.reader_model.specs.declared.Stage.the-variants.{ParameterCount, Parameters, RootCount, Root, CoefficientCount, Coefficient, QueryCount, Value, Sibling, Tail}
 use Rattle.reader_model.specs.declared.Cursor.{Cursor}
@@ -34,10 +34,10 @@ use Rattle.reader_model.specs.declared.Core.{Core}
 use Rattle.reader_model.specs.declared.Tables.{Tables}
 use Rattle.reader_model.specs.declared.Reader.{Reader}
 use Rattle.reader_model.specs.State.{itemLength, stopped, closedState, place}
-use Rattle.reader_model.specs.Items.{sane, refused, finals, afterCount, afterQueryCount, dispatched, kept, advanced}
+use Rattle.reader_model.specs.Items.{sane, refused, finals, afterCount, afterQueryCount, afterItem, advanced}
 use Rattle.reader_model.specs.Model.{stored, step, fed, isStopped, isTail, openAnswer, answerOf, pieced, ended, started}
 use Rattle.reader_model.proofs.Filled.{challenges}
-use Rattle.reader_model.proofs.Rest.{counting, withParameters, toSection3, toSection4, toQueries, judgement-is, Sound, Waiting, At, parameter-count, parameters, root-count, root, coefficient-count, coefficient, query-count, value, sibling, After, goes, stops}
+use Rattle.reader_model.proofs.Rest.{counting, withParameters, toSection3, toSection4, toQueries, sections-are, Sound, Waiting, At, parameter-count, parameters, root-count, root, coefficient-count, coefficient, query-count, value, sibling, After, goes, stops}
 use Rattle.reader_model.proofs.Rest
 use Rattle.reader_model.proofs.Stages.{finals-are, finals-low, pred-of, leaves-as, after-count, after-parameters, after-root, after-coefficient}
 use Rattle.reader_model.proofs.Queries.{begin-query, after-value, after-sibling}
@@ -84,9 +84,9 @@ record Waits (g : Stage) (u : ℕ) : Type 0 where
 open-item : {g : Stage} {u : ℕ} → itemLength g ≡ u → u ≤ 32 → 0 < u → isStopped g ≡ false → isTail g ≡ false → Waits g u
 open-item e h l f i = record { size = e; within = h; some = l; not-stopped = f; not-tail = i }
 
-module _ (hash : List ℕ → Digest) (context : List ℕ) where
+module _ (hash : List ℕ → Digest) (first : Digest) where
   waits : {p : Params} {c : Cursor} {w : Walk} {s : Digest} {t : Tables} {f : List ℕ → Process} (g : Stage) (u : ℕ)
-      → Waiting hash context p c w s t g u f → Waits g u
+      → Waiting hash first p c w s t g u f → Waits g u
   waits ParameterCount u (parameter-count e l) = open-item refl (omega arith) (omega arith) refl refl
   waits Parameters u (parameters e l) = open-item refl (omega arith) (omega arith) refl refl
   waits RootCount u (root-count e l) = open-item refl (omega arith) (omega arith) refl refl
@@ -98,44 +98,44 @@ module _ (hash : List ℕ → Digest) (context : List ℕ) where
   waits Sibling u (sibling w more h) = open-item refl (omega arith) (omega arith) refl refl
 
   -- A whole item, of every stage. Counts that are wanted are above 0, so at least one root, coefficient and query follow.
-  dispatch : (c : Core) (t : Tables) (s : Sound c) (g : Stage) (u : ℕ) (f : List ℕ → Process) → At hash context c t g u f
-      → After hash context (dispatched hash g c t) (kept hash g c t) (place c) (f (take u (c .item)))
+  dispatch : (c : Core) (t : Tables) (s : Sound c) (g : Stage) (u : ℕ) (f : List ℕ → Process) → At hash first c t g u f
+      → After hash first (afterItem hash g c t .core) (afterItem hash g c t .tables) (place c) (f (take u (c .item)))
   unfolding many _>>=_ _>>_ bytes pure number afterCount afterQueryCount
   dispatch c t s ParameterCount u f (parameter-count e l) =
-      after-count c t headerSize headerSize (need headerSize (withParameters hash (c .params) context)) refl (goes s (parameters e l) refl refl)
+      after-count c t headerSize headerSize (need headerSize (withParameters hash (c .params) first)) refl (goes s (parameters e l) refl refl)
   dispatch c t s Parameters u f (parameters e l) = after-parameters c t (goes s (root-count e l) refl refl)
   dispatch c t s RootCount u f (root-count e l) =
       let (more, k-is) = pred-of (c .params .k) (omega arith) in
-      after-count c t (c .params .k) (c .params .k) (many (c .params .k) (bytes 32) (toSection3 hash (c .params) context)) refl
+      after-count c t (c .params .k) (c .params .k) (many (c .params .k) (bytes 32) (toSection3 hash (c .params) first)) refl
       (leaves-as (goes s (root {roots = []} more e l (omega arith)) refl refl)
-      (ap (λ x. many x (bytes 32) (toSection3 hash (c .params) context)) (sym k-is)))
+      (ap (λ x. many x (bytes 32) (toSection3 hash (c .params) first)) (sym k-is)))
   dispatch c t s Root u f (root {roots} more e l total) =
       leaves-as (after-root c t s roots more e l total) (ap f (sym (take-all 32 (c .item) (omega arith))))
   dispatch c t s CoefficientCount u f (coefficient-count {roots} e l) =
       let (more, F-is) = pred-of (finalCount (c .params)) (finals-low (c .params)) in
-      after-count c t (finals c) (finalCount (c .params)) (many (finalCount (c .params)) number (toSection4 hash (c .params) context roots))
+      after-count c t (finals c) (finalCount (c .params)) (many (finalCount (c .params)) number (toSection4 hash (c .params) first roots))
       (finals-are c s)
       (leaves-as (goes s (coefficient {roots = roots} {final = []} more e l (omega arith)) refl refl)
-      (ap (λ x. many x number (toSection4 hash (c .params) context roots)) (sym F-is)))
+      (ap (λ x. many x number (toSection4 hash (c .params) first roots)) (sym F-is)))
   dispatch c t s Coefficient u f (coefficient {roots} {final} more e l total) = after-coefficient c t s roots final more e l total
   dispatch c t s QueryCount u f (query-count {roots} {final} l) =
       let (more, q-is) = pred-of (c .params .q) (omega arith) in
-      after-count c t (c .params .q) (c .params .q) (toQueries hash (c .params) context roots final (c .params .q) 0) refl
-      (leaves-as (begin-query hash context c t s roots final 0 more l (omega arith))
-      (ap (λ x. toQueries hash (c .params) context roots final x 0) (sym q-is)))
-  dispatch c t s Value u f (value w more h g e total) = after-value hash context c t s w more h g e total
+      after-count c t (c .params .q) (c .params .q) (toQueries hash (c .params) first roots final (c .params .q) 0) refl
+      (leaves-as (begin-query hash first c t s roots final 0 more l (omega arith))
+      (ap (λ x. toQueries hash (c .params) first roots final x 0) (sym q-is)))
+  dispatch c t s Value u f (value w more h g e total) = after-value hash first c t s w more h g e total
   dispatch c t s Sibling u f (sibling w more h) =
-      leaves-as (after-sibling hash context c t s w more h) (ap f (sym (take-all 32 (c .item) (omega arith))))
+      leaves-as (after-sibling hash first c t s w more h) (ap f (sym (take-all 32 (c .item) (omega arith))))
 
 -- The state r after d bytes, where this is left of the judgement, and `held` are the bytes of its next item that are there: within an item, after the
 -- last one, and refused. The bytes that are left to read are few, so that places stay within the model's bounds.
-data Stands (hash : List ℕ → Digest) (context : List ℕ) (r : Reader) : Process → List ℕ → ℕ → Type 0 where
-  reads : {u v d : ℕ} {f : List ℕ → Process} {held : List ℕ} → Sound (r .core) → At hash context (r .core) (r .tables) (r .core .stage) u f
+data Stands (hash : List ℕ → Digest) (first : Digest) (r : Reader) : Process → List ℕ → ℕ → Type 0 where
+  reads : {u v d : ℕ} {f : List ℕ → Process} {held : List ℕ} → Sound (r .core) → At hash first (r .core) (r .tables) (r .core .stage) u f
       → take (r .core .fill) (r .core .item) ≡ held → r .core .fill < u → place (r .core) ≡ d
-      → Width (need u f) v → r .core .cursor .start + v < 2147483648 → Stands hash context r (need u f) held d
+      → Width (need u f) v → r .core .cursor .start + v < 2147483648 → Stands hash first r (need u f) held d
   whole : {d : ℕ} → Sound (r .core) → r .core .stage ≡ Tail → r .core .fill ≡ 0 → r .core .cursor .start ≡ d → d < 2147483648
-      → Stands hash context r done [] d
-  refusing : {number d : ℕ} → r .core ≡ stopped (answered number d) → Stands hash context r (fail number) [] d
+      → Stands hash first r done [] d
+  refusing : {number d : ℕ} → r .core ≡ stopped (answered number d) → Stands hash first r (fail number) [] d
 
 -- What is left after the next item has its width.
 width-after : {u v : ℕ} {f : List ℕ → Process} → Width (need u f) v → (bs : List ℕ) → length bs ≡ u → (v′ : ℕ) × (v ≡ u + v′) × Width (f bs) v′
@@ -147,11 +147,8 @@ unfolding step
 step-more hash r x h =
     rw (lt-ltb (r .core .fill) (itemLength (r .core .stage)) (omega arith), lt-ltb (r .core .fill + 1) (itemLength (r .core .stage)) h)
 
-abbrev wholeItem : (List ℕ → Digest) → Stage → Core → Tables → Reader
-wholeItem hash g c t = record { core = dispatched hash g c t; tables = kept hash g c t }
-
 step-last : (hash : List ℕ → Digest) (r : Reader) (x : ℕ) → r .core .fill + 1 ≡ itemLength (r .core .stage) → sane (stored r x .core) ≡ true
-    → step hash r x ≡ wholeItem hash (r .core .stage) (stored r x .core) (r .tables)
+    → step hash r x ≡ afterItem hash (r .core .stage) (stored r x .core) (r .tables)
 unfolding step advanced
 step-last hash r x h e =
     rw (lt-ltb (r .core .fill) (itemLength (r .core .stage)) (omega arith), le-ltb (r .core .fill + 1) (itemLength (r .core .stage)) (omega arith), e)
@@ -181,21 +178,21 @@ held-more c x held e h = rw (add-one, take-suc-set (c .item) (c .fill) x h, e)
 held-long : (c : Core) (held : List ℕ) → take (c .fill) (c .item) ≡ held → c .fill ≤ length (c .item) → length held ≡ c .fill
 held-long c held e h = ap length (sym e) ∙ length-take-le (c .fill) (c .item) h
 
-module _ (hash : List ℕ → Digest) (context : List ℕ) where
+module _ (hash : List ℕ → Digest) (first : Digest) where
   -- After an item.
-  settle : (c : Core) (t : Tables) (d : ℕ) (q : Process) (v : ℕ) → After hash context c t d q → Width q v → d + v < 2147483648
-      → Stands hash context (record { core = c; tables = t }) q [] d
+  settle : (c : Core) (t : Tables) (d : ℕ) (q : Process) (v : ℕ) → After hash first c t d q → Width q v → d + v < 2147483648
+      → Stands hash first (record { core = c; tables = t }) q [] d
   settle c t d (need u f) v (goes s a e h) w few =
-      reads {u = u} {v = v} {d = d} {f = f} {held = []} s a (rw e) (omega (arith, waits hash context (c .stage) u a)) (omega arith) w (omega arith)
+      reads {u = u} {v = v} {d = d} {f = f} {held = []} s a (rw e) (omega (arith, waits hash first (c .stage) u a)) (omega arith) w (omega arith)
   settle c t d done v (Rest.ends s e f h) w few = whole s e f h (omega arith)
   settle c t d (fail number) v (stops e) w few = refusing e
 
   -- The first state.
-  starts : (p : Params) → Valid p → Stands hash context (started hash p context) (judgement hash p context) [] 0
+  starts : (p : Params) → Valid p → Stands hash first (started p first) (sections hash p first (λ _. done)) [] 0
   unfolding started absorbed joined challenges
   starts p v =
-      subst (λ q. Stands hash context (started hash p context) q [] 0) (sym (judgement-is hash p context))
-      (reads {u = 2} {v = fileLength p} {d = 0} {f = counting headerSize (need headerSize (withParameters hash p context))} {held = []}
+      subst (λ q. Stands hash first (started p first) q [] 0) (sym (sections-are hash p first))
+      (reads {u = 2} {v = fileLength p} {d = 0} {f = counting headerSize (need headerSize (withParameters hash p first))} {held = []}
       (record {
         valid = v;
         item-size = refl;
@@ -218,27 +215,27 @@ module _ (hash : List ℕ → Digest) (context : List ℕ) where
         transcript-is = refl;
       })
       refl)
-      refl (omega arith) refl (rw (judgement-is hash p context) at (judgement-width hash p context)) (omega (arith, file-short p v)))
+      refl (omega arith) refl (rw (sections-are hash p first) at (sections-width hash p first)) (omega (arith, file-short p v)))
 
-  room : {r : Reader} {u d : ℕ} {f : List ℕ → Process} {held : List ℕ} → Stands hash context r (need u f) held d → length held < u
+  room : {r : Reader} {u d : ℕ} {f : List ℕ → Process} {held : List ℕ} → Stands hash first r (need u f) held d → length held < u
   room {r} {u} {held = held} (reads s a h l e w few) =
-      let here = waits hash context (r .core .stage) u a in
+      let here = waits hash first (r .core .stage) u a in
       omega (arith, held-long (r .core) held h (omega (arith, s .item-size)))
 
-  more : {r : Reader} {u d : ℕ} {f : List ℕ → Process} {held : List ℕ} → Stands hash context r (need u f) held d → (x : ℕ) → suc (length held) < u
-      → Stands hash context (step hash r x) (need u f) (held ++ x ∷ []) (suc d)
+  more : {r : Reader} {u d : ℕ} {f : List ℕ → Process} {held : List ℕ} → Stands hash first r (need u f) held d → (x : ℕ) → suc (length held) < u
+      → Stands hash first (step hash r x) (need u f) (held ++ x ∷ []) (suc d)
   more {r} {u} {d} {f} {held} (reads {v = v} s a h l e w few) x m =
-      let here = waits hash context (r .core .stage) u a in
+      let here = waits hash first (r .core .stage) u a in
       let long = held-long (r .core) held h (omega (arith, s .item-size)) in
-      subst (λ y. Stands hash context y (need u f) (held ++ x ∷ []) (suc d)) (sym (step-more hash r x (omega arith)))
+      subst (λ y. Stands hash first y (need u f) (held ++ x ∷ []) (suc d)) (sym (step-more hash r x (omega arith)))
       (reads {u = u} {v = v} {d = suc d} {f = f} {held = held ++ x ∷ []} (stored-sound r x s) a
       (held-more (r .core) x held h (omega (arith, s .item-size))) (omega arith) (omega arith) w few)
 
   -- The item's last byte: the whole item is dispatched.
-  last : {r : Reader} {u d : ℕ} {f : List ℕ → Process} {held : List ℕ} → Stands hash context r (need u f) held d → (x : ℕ) → suc (length held) ≡ u
-      → Stands hash context (step hash r x) (f (held ++ x ∷ [])) [] (suc d)
+  last : {r : Reader} {u d : ℕ} {f : List ℕ → Process} {held : List ℕ} → Stands hash first r (need u f) held d → (x : ℕ) → suc (length held) ≡ u
+      → Stands hash first (step hash r x) (f (held ++ x ∷ [])) [] (suc d)
   last {r} {u} {d} {f} {held} (reads {v = v} s a h l e w few) x m =
-      let here = waits hash context (r .core .stage) u a in
+      let here = waits hash first (r .core .stage) u a in
       let long = held-long (r .core) held h (omega (arith, s .item-size)) in
       let full : r .core .fill + 1 ≡ u = omega arith in
       let item-is : take u (stored r x .core .item) ≡ held ++ x ∷ [] = rw (← full) (held-more (r .core) x held h (omega (arith, s .item-size))) in
@@ -246,13 +243,13 @@ module _ (hash : List ℕ → Digest) (context : List ℕ) where
       let (v′, sum, rest) =
       width-after w (take u (stored r x .core .item)) (length-take-le u (stored r x .core .item) (omega (arith, stored-sound r x s .item-size))) in
       let there : place (stored r x .core) ≡ suc d = omega arith in
-      subst (λ y. Stands hash context y (f (held ++ x ∷ [])) [] (suc d)) (sym (step-last hash r x (omega arith) ok))
-      (subst₂ (λ y z. Stands hash context (wholeItem hash (r .core .stage) (stored r x .core) (r .tables)) (f y) [] z) item-is there
+      subst (λ y. Stands hash first y (f (held ++ x ∷ [])) [] (suc d)) (sym (step-last hash r x (omega arith) ok))
+      (subst₂ (λ y z. Stands hash first (afterItem hash (r .core .stage) (stored r x .core) (r .tables)) (f y) [] z) item-is there
       (settle _ _ (place (stored r x .core)) (f (take u (stored r x .core .item))) v′
-      (dispatch hash context (stored r x .core) (r .tables) (stored-sound r x s) (r .core .stage) u f a) rest (omega arith)))
+      (dispatch hash first (stored r x .core) (r .tables) (stored-sound r x s) (r .core .stage) u f a) rest (omega arith)))
 
   -- A byte after the end.
-  past : {r : Reader} {d : ℕ} → Stands hash context r done [] d → (x : ℕ) → Stands hash context (step hash r x) (fail byte-after-the-end) [] (suc d)
+  past : {r : Reader} {d : ℕ} → Stands hash first r done [] d → (x : ℕ) → Stands hash first (step hash r x) (fail byte-after-the-end) [] (suc d)
   unfolding refused
   past {r} {d} (whole s tail none e few) x =
       let size : itemLength (r .core .stage) ≡ 1 = ap itemLength tail in
@@ -260,27 +257,27 @@ module _ (hash : List ℕ → Digest) (context : List ℕ) where
       let there : place (stored r x .core) ≡ suc d = omega arith in
       refusing
       (ap (λ y. y .core) (step-last hash r x (omega arith) ok)
-      ∙ ap (λ g. dispatched hash g (stored r x .core) (r .tables)) tail
+      ∙ ap (λ g. afterItem hash g (stored r x .core) (r .tables) .core) tail
       ∙ ap (λ d. stopped (answered byte-after-the-end d)) there)
 
-  stays : {r : Reader} {number d : ℕ} → Stands hash context r (fail number) [] d → (x : ℕ) → step hash r x ≡ r
+  stays : {r : Reader} {number d : ℕ} → Stands hash first r (fail number) [] d → (x : ℕ) → step hash r x ≡ r
   stays {r} {number} {d} (refusing e) x = step-stopped hash r x (answered number d) e
 
   -- The answers to a piece and to the end call.
-  said : {r : Reader} {q : Process} {d : ℕ} {held : List ℕ} → Stands hash context r q held d → says hash r ≡ pieceAnswer (outcome q [] d) d
+  said : {r : Reader} {q : Process} {d : ℕ} {held : List ℕ} → Stands hash first r q held d → says hash r ≡ pieceAnswer (outcome q [] d) d
   unfolding pieced fed answerOf outcome pieceAnswer
   said {r} (reads {u} s a h l e w few) =
-      let here = waits hash context (r .core .stage) u a in
+      let here = waits hash first (r .core .stage) u a in
       rw (here .not-stopped, open-is open-so-far (r .core) (omega arith) (omega arith), e)
   said {r} (whole {d} s tail none e few) =
       let there : place (r .core) ≡ d = omega arith in
       rw (tail, open-is open-so-far (r .core) (omega arith) (omega arith), there)
   said (refusing e) = rw e
 
-  end-said : {r : Reader} {q : Process} {d : ℕ} {held : List ℕ} → Stands hash context r q held d → endsWith r ≡ endAnswer (outcome q [] d) d
+  end-said : {r : Reader} {q : Process} {d : ℕ} {held : List ℕ} → Stands hash first r q held d → endsWith r ≡ endAnswer (outcome q [] d) d
   unfolding ended answerOf outcome endAnswer
   end-said {r} (reads {u} {d = d} s a h l e w few) =
-      let here = waits hash context (r .core .stage) u a in
+      let here = waits hash first (r .core .stage) u a in
       rw (here .not-stopped, open-is _ (r .core) (omega arith) (omega arith), e) (ap (λ b. answered (cond b accepted too-few-bytes) d) (here .not-tail))
   end-said {r} (whole {d} s tail none e few) =
       let there : place (r .core) ≡ d = omega arith in
@@ -292,9 +289,9 @@ module _ (hash : List ℕ → Digest) (context : List ℕ) where
     process : Process
     held : List ℕ
     total : ℕ
-    stands : Stands hash context r process held total
+    stands : Stands hash first r process held total
 
-  one-more : (r : Reader) (q : Process) (held : List ℕ) (d : ℕ) → Stands hash context r q held d → (x : ℕ) → Reached (step hash r x)
+  one-more : (r : Reader) (q : Process) (held : List ℕ) (d : ℕ) → Stands hash first r q held d → (x : ℕ) → Reached (step hash r x)
   one-more r (need u f) held d h x = by (ltb (suc (length held)) u) refl
     where
       by : (b : Bool) → ltb (suc (length held)) u ≡ b → Reached (step hash r x)
@@ -309,14 +306,14 @@ module _ (hash : List ℕ → Digest) (context : List ℕ) where
   reaches [] h = h
   reaches (x ∷ xs) {r} h = reaches xs (one-more r (h .process) (h .held) (h .total) (h .stands) x)
 
-  pub started-reached : (p : Params) → Valid p → Reached (started hash p context)
-  started-reached p v = record { process = judgement hash p context; held = []; total = 0; stands = starts p v }
+  pub started-reached : (p : Params) → Valid p → Reached (started p first)
+  started-reached p v = record { process = sections hash p first (λ _. done); held = []; total = 0; stands = starts p v }
 
   -- Such a state is within the bounds, so the model's own test of them never fails.
-  sane-by : (r : Reader) (q : Process) (held : List ℕ) (d : ℕ) → Stands hash context r q held d → sane (r .core) ≡ true
+  sane-by : (r : Reader) (q : Process) (held : List ℕ) (d : ℕ) → Stands hash first r q held d → sane (r .core) ≡ true
   unfolding sane
   sane-by r (need u f) held d (reads s a h l e w few) =
-      let here = waits hash context (r .core .stage) u a in
+      let here = waits hash first (r .core .stage) u a in
       sane-is (r .core) s (omega arith) (omega arith)
   sane-by r done held d (whole s tail none e few) = sane-is (r .core) s (omega arith) (omega arith)
   sane-by r (fail number) held d (refusing e) = rw e
@@ -325,7 +322,7 @@ module _ (hash : List ℕ → Digest) (context : List ℕ) where
   reached-sane {r} h = sane-by r (h .process) (h .held) (h .total) (h .stands)
 
   -- What a refusal leaves of the small part.
-  refused-by : (r : Reader) (q : Process) (held : List ℕ) (d : ℕ) → Stands hash context r q held d → accepted < says hash r .number
+  refused-by : (r : Reader) (q : Process) (held : List ℕ) (d : ℕ) → Stands hash first r q held d → accepted < says hash r .number
       → r .core ≡ stopped (says hash r)
   unfolding pieced fed answerOf outcome pieceAnswer
   refused-by r (need u f) held d h m = absurd (omega (arith, ap (λ a. a .number) (said h)))
@@ -341,10 +338,10 @@ module _ (hash : List ℕ → Digest) (context : List ℕ) where
   shuts = record { stays = λ x. step-stopped hash closedState x (answered closed 0) refl; said = refl; ended = refl }
 
   -- The model's states stand for what is left of the judgement.
-  pub denotes : (p : Params) → Valid p → Denotes (judgement hash p context) (started hash p context) (step hash) (says hash) endsWith closedState
+  pub denotes : (p : Params) → Valid p → Denotes (sections hash p first (λ _. done)) (started p first) (step hash) (says hash) endsWith closedState
   denotes p v = record {
-    Stands = Stands hash context;
-    begins = judgement-begins hash p context;
+    Stands = Stands hash first;
+    begins = sections-begin hash p first;
     opens = starts p v;
     room = λ h. room h;
     more = λ h. more h;

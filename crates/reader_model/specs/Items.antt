@@ -11,7 +11,7 @@ use Rattle.message.specs.Bytes.{num}
 use Rattle.message.specs.Message.{Digest}
 use Rattle.params.specs.Parameters.{headerSize, header, finalCount, ifValid, depth, valuesPerLeaf, height, leafCount, indexBits}
 use Rattle.domain.specs.Domain.{point}
-use Rattle.merkle.specs.Merkle.{leaf, join}
+use Rattle.merkle.specs.Merkle.{leafDigest, join}
 use Rattle.transcript.specs.Transcript.{absorb, challenge, finish, drawn}
 use Rattle.fold.specs.Poly.{eval}
 use Rattle.fold.specs.Fold.{expected, agrees}
@@ -22,7 +22,7 @@ use Rattle.reader_model.specs.declared.Walk.{Walk}
 use Rattle.reader_model.specs.declared.Core.{Core}
 use Rattle.reader_model.specs.declared.Tables.{Tables}
 use Rattle.reader_model.specs.declared.Reader.{Reader}
-use Rattle.reader_model.specs.State.{stopped, place, withCore, withCursor, withWalk, withTranscript, movedTo}
+use Rattle.reader_model.specs.State.{stopped, keeping, whole, place, withCore, withCursor, withWalk, withTranscript, movedTo}
 
 -- The bounds that every state of a reader keeps; a state outside them is made by no call.
 unfoldable pub sane : Core → Bool
@@ -157,7 +157,7 @@ module _ (hash : List ℕ → Digest) where
         values = values;
         scale = expected (leafPoint c) β (leafOf c values) .scale;
         folded = expected (leafPoint c) β (leafOf c values) .folded;
-        node = leaf hash (leafOf c values);
+        node = leafDigest hash (c .cursor .layer) (leafOf c values);
       }
 
   -- The leaf's last value, in this array with the others: the one that the index names must be the folded one.
@@ -211,36 +211,20 @@ module _ (hash : List ℕ → Digest) where
       (movedTo (atHeight up (c .cursor .height + 1)) Sibling)
       (afterPath up roots coefficients)
 
-  -- The small part after a whole item, and the tables after it.
-  abbrev pub dispatched : Stage → Core → Tables → Core
-  dispatched ParameterCount c t = afterCount c headerSize Parameters
-  dispatched Parameters c t = afterParameters c
-  dispatched RootCount c t = afterCount c (c .params .k) Root
-  dispatched Root c t = afterRoot c
-  dispatched CoefficientCount c t = afterCount c (finals c) Coefficient
-  dispatched Coefficient c t = afterCoefficient c (t .coefficients)
-  dispatched QueryCount c t = afterQueryCount c
-  dispatched Value c t = afterValue c (t .challenges)
-  dispatched Sibling c t = afterSibling c (t .roots) (t .coefficients)
-  dispatched Tail c t = refused c byte-after-the-end
-  dispatched Stopped c t = c
+  -- The state after a whole item of each stage. Roots, challenges and coefficients go into the tables; every other item leaves them as they are.
+  abbrev pub afterItem : Stage → Core → Tables → Reader
+  afterItem ParameterCount c t = keeping t (afterCount c headerSize Parameters)
+  afterItem Parameters c t = keeping t (afterParameters c)
+  afterItem RootCount c t = keeping t (afterCount c (c .params .k) Root)
+  afterItem Root c t = whole (afterRoot c) (rootsAfter c (t .roots)) (challengesAfter c (t .challenges)) (t .coefficients)
+  afterItem CoefficientCount c t = keeping t (afterCount c (finals c) Coefficient)
+  afterItem Coefficient c t = whole (afterCoefficient c (t .coefficients)) (t .roots) (t .challenges) (coefficientsAfter c (t .coefficients))
+  afterItem QueryCount c t = keeping t (afterQueryCount c)
+  afterItem Value c t = keeping t (afterValue c (t .challenges))
+  afterItem Sibling c t = keeping t (afterSibling c (t .roots) (t .coefficients))
+  afterItem Tail c t = keeping t (refused c byte-after-the-end)
+  afterItem Stopped c t = keeping t c
 
-  abbrev pub kept : Stage → Core → Tables → Tables
-  kept ParameterCount c t = t
-  kept Parameters c t = t
-  kept RootCount c t = t
-  kept Root c t = record { roots = rootsAfter c (t .roots); challenges = challengesAfter c (t .challenges); coefficients = t .coefficients }
-  kept CoefficientCount c t = t
-  kept Coefficient c t = record { roots = t .roots; challenges = t .challenges; coefficients = coefficientsAfter c (t .coefficients) }
-  kept QueryCount c t = t
-  kept Value c t = t
-  kept Sibling c t = t
-  kept Tail c t = t
-  kept Stopped c t = t
-
-  -- The state after a whole item.
+  -- The same of a state, by its own stage, if it keeps the bounds.
   unfoldable pub advanced : Reader → Reader
-  advanced r =
-      cond (sane (r .core))
-      (record { core = dispatched (r .core .stage) (r .core) (r .tables); tables = kept (r .core .stage) (r .core) (r .tables) })
-      (withCore r (stopped (answered closed 0)))
+  advanced r = cond (sane (r .core)) (afterItem (r .core .stage) (r .core) (r .tables)) (withCore r (stopped (answered closed 0)))

@@ -1,19 +1,20 @@
 -- The reader's calls: one byte, a piece, the opening and the end call.
 use Prim.Native.Nat.{ℕ, _+_}
-use mathlib.Core.Bool.{Bool, true, false, cond, _&&_}
+use mathlib.Core.Bool.{Bool, cond, _&&_}
 use mathlib.Core.List.{List, foldl}
 use lib.ListN.{length, set, replicate}
 use lib.Seq.{sets}
-use lib.Dec.{leb, ltb}
+use lib.Dec.{eqb, leb, ltb}
 use Rattle.answer.specs.declared.Answer.{Answer}
-use Rattle.answer.specs.Table.{answered, open-so-far, accepted, closed, parameters-not-valid, too-few-bytes}
+use Rattle.answer.specs.Table.{answered, open-so-far, accepted, closed, too-few-bytes}
 use Rattle.message.specs.Message.{Digest}
 use Rattle.params.specs.declared.Params.{Params}
-use Rattle.params.specs.Parameters.{header, valid}
+use Rattle.params.specs.declared.Terms.{Terms}
+use Rattle.params.specs.Parameters.{header}
+use Rattle.params.specs.Admission.{admissionOf}
 use Rattle.transcript.specs.Transcript.{start}
 use Rattle.reader_model.specs.declared.Stage.{Stage}
-use Rattle.reader_model.specs.declared.Stage.the-variants.{ParameterCount, Parameters, RootCount, Root, CoefficientCount, Coefficient, QueryCount, Value, Sibling, Tail, Stopped}
-use Rattle.reader_model.specs.declared.Hold.{Hold}
+use Rattle.reader_model.specs.declared.Stage.the-variants.{ParameterCount}
 use Rattle.reader_model.specs.declared.Core.{Core}
 use Rattle.reader_model.specs.declared.Reader.{Reader}
 use Rattle.reader_model.specs.declared.Reply.{Reply}
@@ -35,31 +36,12 @@ step hash r byte =
 unfoldable pub fed : (List ℕ → Digest) → Reader → List ℕ → Reader
 fed hash r piece = foldl (step hash) r piece
 
+-- A stopped reader reads no byte. The item of one byte is the one that no file has: it stands after a whole file.
 abbrev pub isStopped : Stage → Bool
-isStopped ParameterCount = false
-isStopped Parameters = false
-isStopped RootCount = false
-isStopped Root = false
-isStopped CoefficientCount = false
-isStopped Coefficient = false
-isStopped QueryCount = false
-isStopped Value = false
-isStopped Sibling = false
-isStopped Tail = false
-isStopped Stopped = true
+isStopped stage = eqb (itemLength stage) 0
 
 abbrev pub isTail : Stage → Bool
-isTail ParameterCount = false
-isTail Parameters = false
-isTail RootCount = false
-isTail Root = false
-isTail CoefficientCount = false
-isTail Coefficient = false
-isTail QueryCount = false
-isTail Value = false
-isTail Sibling = false
-isTail Tail = true
-isTail Stopped = false
+isTail stage = eqb (itemLength stage) 1
 
 -- The answer of a reader that is not stopped, of its item's start and fill: this number at the bytes so far. A state whose place is out of bounds is made
 -- by no call.
@@ -78,33 +60,20 @@ replied a c roots challenges coefficients = record { answer = a; state = whole c
 unfoldable pub pieced : (List ℕ → Digest) → Reader → List ℕ → Reply
 pieced hash r piece = record { answer = answerOf (fed hash r piece .core) open-so-far; state = fed hash r piece }
 
--- What a piece that ends inside the current item does, of the parts of the state that it touches: its bytes go into the item's buffer. Any other piece
--- is not held: the buffer and its fill stay.
-pub record Buffer : Type 0 where
-  pub answer : Answer
-  pub fill : ℕ
-  pub item : List ℕ
+-- Whether a piece ends inside the current item, so that nothing is decided; and the item's buffer with such a piece. Any other leaves it as it is.
+abbrev pub endsInside : Stage → ℕ → List ℕ → Bool
+endsInside stage fill piece = ltb (fill + length piece) (itemLength stage)
 
-abbrev pub buffer : Hold → List ℕ → Buffer
-buffer h item = record { answer = h .answer; fill = h .fill; item = item }
-
-unfoldable pub holding : Stage → ℕ → ℕ → List ℕ → List ℕ → Buffer
-holding stage start fill item piece =
-    cond (ltb (fill + length piece) (itemLength stage))
-    (record {
-      answer = openAnswer open-so-far start (fill + length piece);
-      fill = fill + length piece;
-      item = sets item fill piece;
-    })
-    (record { answer = answered open-so-far 0; fill = fill; item = item })
+unfoldable pub filledItem : Stage → ℕ → List ℕ → List ℕ → List ℕ
+filledItem stage fill item piece = cond (endsInside stage fill piece) (sets item fill piece) item
 
 -- The end call: 1 for a whole file, else 26; a stopped reader's own answer. It leaves the closed state.
 unfoldable pub ended : Reader → Reply
 ended r = record { answer = answerOf (r .core) (cond (isTail (r .core .stage)) accepted too-few-bytes); state = closedState }
 
--- The state that an opening with valid parameters leaves.
-unfoldable pub started : (List ℕ → Digest) → Params → List ℕ → Reader
-started hash p context =
+-- The state before any byte, from the transcript's first state.
+unfoldable pub started : Params → Digest → Reader
+started p first =
     record {
       core = record {
         stage = ParameterCount;
@@ -114,14 +83,15 @@ started hash p context =
         params = p;
         cursor = noCursor;
         walk = noWalk;
-        transcript = start hash (header p) context;
+        transcript = first;
       };
       tables = noTables;
     }
 
--- The opening: with parameters that are not valid it is refused, and the reader is closed.
-unfoldable pub opened : (List ℕ → Digest) → Params → List ℕ → Reply
-opened hash p context =
-    cond (valid p)
-    (record { answer = answered open-so-far 0; state = started hash p context })
-    (record { answer = answered parameters-not-valid 0; state = closedState })
+-- The opening: where its arguments are not admitted it is refused, and the reader is closed.
+unfoldable pub opened : (List ℕ → Digest) → Terms → Reply
+opened hash a =
+    record {
+      answer = answered (admissionOf a) 0;
+      state = cond (eqb (admissionOf a) open-so-far) (started (a .params) (start hash (header (a .params)) (a .context))) closedState;
+    }

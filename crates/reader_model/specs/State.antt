@@ -5,7 +5,7 @@ use lib.ListN.{replicate}
 use Rattle.answer.specs.declared.Answer.{Answer}
 use Rattle.answer.specs.Table.{answered, open-so-far, closed}
 use Rattle.params.specs.declared.Params.{Params}
-use Rattle.params.specs.Parameters.{headerSize}
+use Rattle.params.specs.Parameters.{headerSize, fromHeader}
 use Rattle.reader_model.specs.declared.Stage.{Stage}
 use Rattle.reader_model.specs.declared.Stage.the-variants.{ParameterCount, Parameters, RootCount, Root, CoefficientCount, Coefficient, QueryCount, Value, Sibling, Tail, Stopped}
 use Rattle.reader_model.specs.declared.Cursor.{Cursor}
@@ -35,7 +35,7 @@ abbrev pub noWalk : Walk
 noWalk = record { index = 0; position = 0; values = replicate 4 0; scale = 0; folded = 0; node = replicate 32 0 }
 
 abbrev pub noParameters : Params
-noParameters = record { n = 0; b = 0; k = 0; q = 0 }
+noParameters = fromHeader (replicate headerSize 0)
 
 abbrev pub noTables : Tables
 noTables = record { roots = replicate 512 0; challenges = replicate 16 0; coefficients = replicate 64 0 }
@@ -63,6 +63,9 @@ tables roots challenges coefficients = record { roots = roots; challenges = chal
 
 abbrev pub whole : Core → List ℕ → List ℕ → List ℕ → Reader
 whole c roots challenges coefficients = record { core = c; tables = tables roots challenges coefficients }
+
+abbrev pub keeping : Tables → Core → Reader
+keeping t c = record { core = c; tables = t }
 
 -- The bytes so far.
 abbrev pub place : Core → ℕ

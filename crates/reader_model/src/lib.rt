@@ -18,6 +18,15 @@ pub enum Stage {
     Stopped,
 }
 
+// The sizes of the state's arrays: for 16 layers of one root each, 64 final coefficients, and leaves of 4 values.
+pub const CHALLENGES: usize = 16;
+
+pub const ROOTS: usize = 32 * CHALLENGES;
+
+pub const COEFFICIENTS: usize = 64;
+
+pub const VALUES: usize = 4;
+
 // Where the current item stands: the bytes before it, and its coefficient, query, layer, value and height.
 #[repr(C)]
 pub struct Cursor {
@@ -30,12 +39,12 @@ pub struct Cursor {
 }
 
 // A query's walk: its index in the layer, the number of the node at its height, the leaf's values, what the next layer's value must meet (scale times
-// it is folded), and the node. Sized for 4 values.
+// it is folded), and the node.
 #[repr(C)]
 pub struct Walk {
     pub index: u32,
     pub position: u32,
-    pub values: [u32; 4],
+    pub values: [u32; VALUES],
     pub scale: u32,
     pub folded: u32,
     pub node: [u8; 32],
@@ -53,12 +62,12 @@ pub struct Core {
     pub transcript: [u8; 32],
 }
 
-// What sections 2 and 3 leave: the roots joined, the challenges, and the final coefficients. Sized for 16 layers.
+// What sections 2 and 3 leave: the roots joined, the challenges, and the final coefficients.
 #[repr(C)]
 pub struct Tables {
-    pub roots: [u8; 512],
-    pub challenges: [u32; 16],
-    pub coefficients: [u32; 64],
+    pub roots: [u8; ROOTS],
+    pub challenges: [u32; CHALLENGES],
+    pub coefficients: [u32; COEFFICIENTS],
 }
 
 // The reader's state: the small part, which goes from call to call by value, and the large one, which stays where it is.
@@ -77,10 +86,4 @@ pub struct Reply {
 pub struct Progress {
     pub answer: Answer,
     pub core: Core,
-}
-
-// What a piece that ends inside the current item gives: its answer, and the bytes of the item that are there now.
-pub struct Hold {
-    pub answer: Answer,
-    pub fill: usize,
 }

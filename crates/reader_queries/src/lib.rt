@@ -15,8 +15,12 @@ use reader_items::state::is_sane;
 use reader_items::state::is_sibling;
 use reader_items::state::moved;
 use reader_items::state::refuse;
+use reader_model::CHALLENGES;
+use reader_model::COEFFICIENTS;
 use reader_model::Core;
+use reader_model::ROOTS;
 use reader_model::Stage;
+use reader_model::VALUES;
 use reader_model::Walk;
 
 // Which of a leaf's values an index names.
@@ -33,7 +37,7 @@ fn entry_of(p: Params, layer: u8, index: u32) -> u32
 }
 
 // Of the leaf's values, the one that the index names.
-fn named_value(c: Core, values: [u32; 4]) -> u32
+fn named_value(c: Core, values: [u32; VALUES]) -> u32
     ensures { λ r. ⌜ r ≡ valueAt (c .params) (c .cursor .layer) (c .walk .index) (leafOf c values) ⌝ }
 {
     let params = c.params;
@@ -46,7 +50,7 @@ fn named_value(c: Core, values: [u32; 4]) -> u32
 }
 
 // Whether the value that the index names is the folded one.
-fn is_linked(c: Core, values: [u32; 4]) -> bool
+fn is_linked(c: Core, values: [u32; VALUES]) -> bool
     ensures { λ r. ⌜ r ≡ linked c values ⌝ }
 {
     let value = named_value(c, values);
@@ -54,7 +58,7 @@ fn is_linked(c: Core, values: [u32; 4]) -> bool
 }
 
 // The walk at its leaf.
-fn at_leaf(c: Core, challenge: u32, values: [u32; 4]) -> Walk
+fn at_leaf(c: Core, challenge: u32, values: [u32; VALUES]) -> Walk
     ensures { λ r. ⌜ r ≡ atLeaf sha256 c challenge values ⌝ }
 {
     let params = c.params;
@@ -62,7 +66,7 @@ fn at_leaf(c: Core, challenge: u32, values: [u32; 4]) -> Walk
     let x = domain::point(c.params.n, c.cursor.layer, leaf);
     let scale = fold::scale(x);
     let folded = fold::folded(x, challenge, values[0], values[1]);
-    let node = merkle::leaf(values, params::values_per_leaf(params));
+    let node = merkle::leaf_digest(c.cursor.layer, values, params::values_per_leaf(params));
     Walk {
         index: leaf,
         position: leaf,
@@ -74,7 +78,7 @@ fn at_leaf(c: Core, challenge: u32, values: [u32; 4]) -> Walk
 }
 
 // All values of the leaf are there: the one that the index names must be the folded one, and the leaf is hashed.
-fn after_leaf(c: Core, challenges: &[u32; 16], values: [u32; 4]) -> Core
+fn after_leaf(c: Core, challenges: &[u32; CHALLENGES], values: [u32; VALUES]) -> Core
     requires { ⌜ Sane c ⌝ }
     ensures { λ r. ⌜ r ≡ afterLeaf sha256 c (now (challenges .entry)) values ⌝ }
 {
@@ -91,7 +95,7 @@ fn after_leaf(c: Core, challenges: &[u32; 16], values: [u32; 4]) -> Core
 }
 
 // A value is kept until the leaf's last one is there.
-pub fn after_value(c: Core, challenges: &[u32; 16]) -> Core
+pub fn after_value(c: Core, challenges: &[u32; CHALLENGES]) -> Core
     requires { ⌜ Sane c ⌝ }
     ensures { λ r. ⌜ r ≡ afterValue sha256 c (now (challenges .entry)) ⌝ }
 {
@@ -159,14 +163,13 @@ fn is_root(roots: &[u8], layer: usize, node: [u8; 32]) -> bool
 }
 
 // Whether the chain ends on the final polynomial.
-fn is_final(c: Core, coefficients: &[u32; 64]) -> bool
+fn is_final(c: Core, coefficients: &[u32; COEFFICIENTS]) -> bool
     ensures { λ r. ⌜ r ≡ finished c (now (coefficients .entry)) ⌝ }
 {
     let params = c.params;
     let count = params::final_count(params);
     let x = domain::point(params.n, params.k, c.walk.index);
-    let all = *coefficients;
-    let value = fold::eval(all, count, x);
+    let value = fold::eval_lent(coefficients, count, x);
     fold::agrees(c.walk.scale, c.walk.folded, value)
 }
 
@@ -185,7 +188,7 @@ fn next_query(c: Core) -> Core
 }
 
 // A layer has ended: the next one, or the final polynomial.
-fn next_layer(c: Core, coefficients: &[u32; 64]) -> Core
+fn next_layer(c: Core, coefficients: &[u32; COEFFICIENTS]) -> Core
     requires { ⌜ Sane c ⌝ }
     ensures { λ r. ⌜ r ≡ nextLayer sha256 c (now (coefficients .entry)) ⌝ }
 {
@@ -205,7 +208,7 @@ fn next_layer(c: Core, coefficients: &[u32; 64]) -> Core
 }
 
 // A path has ended.
-fn after_path(c: Core, roots: &[u8; 512], coefficients: &[u32; 64]) -> Core
+fn after_path(c: Core, roots: &[u8; ROOTS], coefficients: &[u32; COEFFICIENTS]) -> Core
     requires { ⌜ Sane c ⌝ }
     ensures { λ r. ⌜ r ≡ afterPath sha256 c (now (roots .entry)) (now (coefficients .entry)) ⌝ }
 {
@@ -220,7 +223,7 @@ fn after_path(c: Core, roots: &[u8; 512], coefficients: &[u32; 64]) -> Core
 }
 
 // Each sibling is an item of its own, so that no handler loops over a path.
-pub fn after_sibling(c: Core, roots: &[u8; 512], coefficients: &[u32; 64]) -> Core
+pub fn after_sibling(c: Core, roots: &[u8; ROOTS], coefficients: &[u32; COEFFICIENTS]) -> Core
     requires { ⌜ Sane c ⌝ }
     ensures { λ r. ⌜ r ≡ afterSibling sha256 c (now (roots .entry)) (now (coefficients .entry)) ⌝ }
 {

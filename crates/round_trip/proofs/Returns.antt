@@ -13,7 +13,8 @@ use Rattle.sha256.proofs.HashLaws.{length-sha256, sha256-byte}
 use Rattle.field.specs.Modular.{p as modulus}
 use Rattle.params.specs.declared.Params.{Params}
 use Rattle.params.specs.Parameters.{fileLength}
-use Rattle.params.proofs.ParameterLaws.{valid-test}
+use Rattle.params.specs.Admission.{termsOf}
+use Rattle.params.proofs.AdmissionLaws.{admitted-valid}
 use Rattle.fold.specs.Poly.{Below, empty, more}
 use Rattle.built.specs.Built.{builtFile}
 use Rattle.writer_model.proofs.File.{built-length}
@@ -43,7 +44,7 @@ module _ (p : Params) (context f numbers bytes output : List ℕ) where
   fitting e =
       let ok = passed p f (length numbers) (length bytes) (length output) e in
       record {
-        parameters = ok .parameters;
+        admitted = ok .admitted;
         count = ok .count;
         below = test-below f (ok .below);
         numbers-fit = ok .numbers-fit;
@@ -53,7 +54,7 @@ module _ (p : Params) (context f numbers bytes output : List ℕ) where
 
   passing : Fits p f numbers bytes output → 0 ≡ tested p f (length numbers) (length bytes) (length output)
   passing h =
-      none-fails p f _ _ _ (valid-test p (h .parameters)) (h .count) (below-test (h .below)) (h .numbers-fit) (h .bytes-fit) (h .output-fits)
+      none-fails p f _ _ _ (h .admitted) (h .count) (below-test (h .below)) (h .numbers-fit) (h .bytes-fit) (h .output-fits)
 
   pub returns : RoundTrip p context f numbers bytes output
   returns =
@@ -67,7 +68,7 @@ module _ (p : Params) (context f numbers bytes output : List ℕ) where
             let ok = fitting number in
             let file : List ℕ = builtFile sha256 p context f in
             let front : take (fileLength p) (file ++ drop (fileLength p) output) ≡ file =
-            take-at file _ (fileLength p) (built-length sha256 length-sha256 sha256-byte p context f (ok .parameters) (omega (arith, ok .count))) in
-            meets p context .by-value .valid-opening (ok .parameters) .accepts-built f (omega (arith, ok .count)) cs once
+            take-at file _ (fileLength p) (built-length sha256 length-sha256 sha256-byte p context f (admitted-valid p (ok .admitted)) (omega (arith, ok .count))) in
+            meets (termsOf p context) .by-value .admitted-opening (ok .admitted) .accepts-built f (omega (arith, ok .count)) cs once
             (same ∙ ap (λ w. take (fileLength p) (w .output)) (succeeds p context f numbers bytes output number) ∙ front);
       }

@@ -1,6 +1,5 @@
 -- The judgement refuses exactly by the table: a refusal, a piece's answer and the verdict, row by row, for any hash and any bytes. Assumes nothing.
 use Prim.Native.Nat.{ℕ, _+_, _≤_, _<_}
-use mathlib.Core.Bool.{Bool, true, false}
 use mathlib.Core.List.{List, [], _∷_}
 use mathlib.Core.Logic.{_↔_}
 use mathlib.Core.Option.{none, some, Option·some-inj}
@@ -8,18 +7,19 @@ use mathlib.Core.Path.{_≡_, refl, ap, ap₂, sym, _∙_, subst₂}
 use native.Mathlib.Omega.{arith}
 use lib.ListN.{length, drop, length-drop}
 use Rattle.answer.specs.declared.Answer.{Answer}
-use Rattle.answer.specs.Table.{answered, open-so-far, accepted, parameters-not-valid, too-few-bytes}
+use Rattle.answer.specs.Table.{answered, open-so-far, accepted, too-few-bytes}
 use Rattle.params.specs.declared.Params.{Params}
-use Rattle.params.specs.Parameters.{Valid, valid, fileLength}
-use Rattle.params.proofs.ParameterLaws.{valid-facts, valid-test}
+use Rattle.params.specs.declared.Terms.{Terms}
+use Rattle.params.specs.Parameters.{Valid, fileLength}
+use Rattle.params.specs.Admission.{admissionOf, Admitted}
+use Rattle.params.proofs.AdmissionLaws.{admitted-valid, admits-true, admits-false, admitted-or-not}
 use Rattle.message.specs.Message.{Digest}
 use Rattle.fri.specs.Process.{Result, run, ended}
 use Rattle.fri.specs.Judge.{judgement, pieceAnswer, endAnswer, verdict}
 use Rattle.calls.specs.Judged.{refusalOf}
-use Rattle.rules.specs.Rules.{Rule, after-the-end, Refused, NoFault, PieceRow, VerdictRow, so-far, not-valid, whole, too-few}
+use Rattle.rules.specs.Rules.{Rule, after-the-end, Refused, NoFault, PieceRow, VerdictRow, so-far, not-admitted, whole, too-few}
 use Rattle.rules.proofs.Faults.{Faults, First, Before, left, cases, same, earlier, number-first, path-first}
 use Rattle.rules.proofs.Steps.{Step, Goes, passes, stops, waits}
-use Rattle.rules.proofs.Parts.{not-both}
 use Rattle.rules.proofs.Sections.{AllFaults, judgement-step}
 use Rattle.rules.proofs.Rows.{rule-fault, fault-rule}
 
@@ -82,7 +82,7 @@ module _ (hash : List ℕ → Digest) (p : Params) (context file : List ℕ) whe
 
   -- What the bytes come to: the first fault, in each of the three answers; or no fault, and all the bytes or fewer.
   pub data Ending (r : Result) : Type 0 where
-    all-there : length file ≡ fileLength p → endAnswer r (length file) ≡ answered accepted (fileLength p) → Ending r
+    all-there : length file ≡ fileLength p → endAnswer r (length file) ≡ answered accepted (length file) → Ending r
     fewer : length file < fileLength p → endAnswer r (length file) ≡ answered too-few-bytes (length file) → Ending r
 
   pub data Judged (r : Result) : Type 0 where
@@ -105,7 +105,7 @@ module _ (hash : List ℕ → Digest) (p : Params) (context file : List ℕ) whe
           → result ≡ ended rest (fileLength p) → Judged result
       ends h n [] t e =
           let size : length file ≡ fileLength p = omega (arith, length-drop (fileLength p) file, ap length t) in
-          going (no-fault (omega arith) (λ c d _. n c d)) (rw e) (rw e) (all-there size (rw e))
+          going (no-fault (omega arith) (λ c d _. n c d)) (rw e) (rw e) (all-there size (rw e (ap (answered accepted) (sym size))))
       ends h n (x ∷ xs) t e =
           let size : fileLength p < length file = omega (arith, length-drop (fileLength p) file, ap length t) in
           stopped {d = fileLength p + 1}
@@ -155,31 +155,6 @@ module _ (hash : List ℕ → Digest) (p : Params) (context file : List ℕ) whe
   row-piece (going n e f g) (PieceRow.by-rule h) = absurd (no-refusal n h)
   row-piece (going n e f g) (so-far m) = f
 
-  -- The end call's answer, for valid parameters.
-  end-row : {r : Result} {c d : ℕ} → Valid p → Judged r → endAnswer r (length file) ≡ answered c d → VerdictRow hash p context file c d
-  end-row v (stopped s e f g) h = VerdictRow.by-rule v (at-stop s (sym g ∙ h))
-  end-row v (going n e f (all-there l g)) h = at-row (VerdictRow hash p context file) (whole v n (omega arith)) (sym g ∙ h)
-  end-row v (going n e f (fewer l g)) h = at-row (VerdictRow hash p context file) (too-few v n (omega arith)) (sym g ∙ h)
-
-  row-end : {r : Result} {c d : ℕ} → Valid p → Judged r → VerdictRow hash p context file c d → endAnswer r (length file) ≡ answered c d
-  row-end v (stopped s e f g) (not-valid n) = absurd (n v)
-  row-end v (stopped s e f g) (VerdictRow.by-rule w h) = g ∙ to-stop s h
-  row-end v (stopped s e f g) (whole w n m) = absurd (no-refusal n (stopped-refused s))
-  row-end v (stopped s e f g) (too-few w n m) = absurd (no-refusal n (stopped-refused s))
-  row-end v (going n e f g) (not-valid m) = absurd (m v)
-  row-end v (going n e f g) (VerdictRow.by-rule w h) = absurd (no-refusal n h)
-  row-end v (going n e f (all-there l g)) (whole w m k) = g
-  row-end v (going n e f (fewer l g)) (whole w m k) = absurd (omega arith)
-  row-end v (going n e f (all-there l g)) (too-few w m k) = absurd (omega arith)
-  row-end v (going n e f (fewer l g)) (too-few w m k) = g
-
-  -- The verdict's answer, for others.
-  other-row : {c d : ℕ} → ¬ Valid p → VerdictRow hash p context file c d → answered parameters-not-valid 0 ≡ answered c d
-  other-row n (not-valid m) = refl
-  other-row n (VerdictRow.by-rule v h) = absurd (n v)
-  other-row n (whole v m l) = absurd (n v)
-  other-row n (too-few v m l) = absurd (n v)
-
   -- The theorems.
   pub refused-exactly : Valid p → (c d : ℕ) → refusalOf (run (judgement hash p context) file 0) ≡ some (answered c d) ↔ Refused hash p context file c d
   refused-exactly v = refusal-rows (judged v)
@@ -188,13 +163,48 @@ module _ (hash : List ℕ → Digest) (p : Params) (context file : List ℕ) whe
       → pieceAnswer (run (judgement hash p context) file 0) (length file) ≡ answered c d ↔ PieceRow hash p context file c d
   piece-exactly v c d = (piece-row (judged v), row-piece (judged v))
 
-  -- With no premise on the parameters.
-  pub verdict-exactly : (c d : ℕ) → verdict hash p context file ≡ answered c d ↔ VerdictRow hash p context file c d
+-- The end call's answer and the verdict, for an opening with these arguments.
+module _ (hash : List ℕ → Digest) (a : Terms) (file : List ℕ) where
+  abbrev Row : ℕ → ℕ → Type 0
+  Row = VerdictRow hash a file
+
+  abbrev About : Result → Type 0
+  About = Judged hash (a .params) (a .context) file
+
+  -- Admitted.
+  end-row : {r : Result} {c d : ℕ} → Admitted a → About r → endAnswer r (length file) ≡ answered c d → Row c d
+  end-row v (stopped s e f g) h = VerdictRow.by-rule v (at-stop hash (a .params) (a .context) file s (sym g ∙ h))
+  end-row v (going n e f (all-there l g)) h = at-row Row (whole v n (omega arith)) (sym g ∙ h)
+  end-row v (going n e f (fewer l g)) h = at-row Row (too-few v n (omega arith)) (sym g ∙ h)
+
+  row-end : {r : Result} {c d : ℕ} → Admitted a → About r → Row c d → endAnswer r (length file) ≡ answered c d
+  row-end v (stopped s e f g) (not-admitted n) = absurd (n v)
+  row-end v (stopped s e f g) (VerdictRow.by-rule w h) = g ∙ to-stop hash (a .params) (a .context) file s h
+  row-end v (stopped s e f g) (whole w n m) =
+      absurd (no-refusal hash (a .params) (a .context) file n (stopped-refused hash (a .params) (a .context) file s))
+  row-end v (stopped s e f g) (too-few w n m) =
+      absurd (no-refusal hash (a .params) (a .context) file n (stopped-refused hash (a .params) (a .context) file s))
+  row-end v (going n e f g) (not-admitted m) = absurd (m v)
+  row-end v (going n e f g) (VerdictRow.by-rule w h) = absurd (no-refusal hash (a .params) (a .context) file n h)
+  row-end v (going n e f (all-there l g)) (whole w m k) = g
+  row-end v (going n e f (fewer l g)) (whole w m k) = absurd (omega arith)
+  row-end v (going n e f (all-there l g)) (too-few w m k) = absurd (omega arith)
+  row-end v (going n e f (fewer l g)) (too-few w m k) = g
+
+  -- Refused.
+  other-row : {c d : ℕ} → ¬ Admitted a → Row c d → answered (admissionOf a) 0 ≡ answered c d
+  other-row n (not-admitted m) = refl
+  other-row n (VerdictRow.by-rule v h) = absurd (n v)
+  other-row n (whole v m l) = absurd (n v)
+  other-row n (too-few v m l) = absurd (n v)
+
+  -- With no premise on the arguments.
+  pub verdict-exactly : (c d : ℕ) → verdict hash a file ≡ answered c d ↔ VerdictRow hash a file c d
   unfolding verdict
-  verdict-exactly c d = by (valid p) refl
+  verdict-exactly c d = by (admitted-or-not (a .params))
     where
-      by : (b : Bool) → valid p ≡ b → verdict hash p context file ≡ answered c d ↔ VerdictRow hash p context file c d
-      by true t = let v : Valid p = valid-facts p t in rw t (end-row v (judged v), row-end v (judged v))
-      by false t =
-          let n : ¬ Valid p = λ v. not-both (valid-test p v) t in
-          rw t (at-row (VerdictRow hash p context file) (not-valid n), other-row n)
+      by : Dec (Admitted a) → verdict hash a file ≡ answered c d ↔ VerdictRow hash a file c d
+      by (yes v) =
+          let j = judged hash (a .params) (a .context) file (admitted-valid (a .params) v) in
+          rw (admits-true (a .params) v) (end-row v j, row-end v j)
+      by (no n) = rw (admits-false (a .params) n) (at-row Row (not-admitted n), other-row n)

@@ -4,10 +4,12 @@ use Prim.Native.Nat.{ℕ, suc, _+_, _*_, _≤_, _<_}
 use mathlib.Core.List.{List}
 use mathlib.Core.Path.{_≡_}
 use lib.ListN.{length, getD}
-use Rattle.answer.specs.Table.{open-so-far, accepted, parameters-not-valid, count-differs, parameters-differ, not-below-modulus, not-the-folded-value, path-misses-root, misses-final-polynomial, too-few-bytes, byte-after-the-end}
+use Rattle.answer.specs.Table.{open-so-far, accepted, count-differs, parameters-differ, not-below-modulus, not-the-folded-value, path-misses-root, misses-final-polynomial, too-few-bytes, byte-after-the-end}
 use Rattle.field.specs.Modular.{p as modulus}
 use Rattle.params.specs.declared.Params.{Params}
-use Rattle.params.specs.Parameters.{Valid, headerSize, header, finalCount, depth, valuesPerLeaf, height, openingLength, rootCountOffset, rootOffset, finalCountOffset, coefficientOffset, queryCountOffset, queriesOffset, openingOffset, valueOffset, siblingOffset, fileLength}
+use Rattle.params.specs.declared.Terms.{Terms}
+use Rattle.params.specs.Admission.{admissionOf, Admitted}
+use Rattle.params.specs.Parameters.{headerSize, header, finalCount, depth, valuesPerLeaf, height, openingLength, rootCountOffset, rootOffset, finalCountOffset, coefficientOffset, queryCountOffset, queriesOffset, openingOffset, valueOffset, siblingOffset, fileLength}
 use Rattle.message.specs.Bytes.{num, part}
 use Rattle.message.specs.Message.{Digest}
 use Rattle.domain.specs.Domain.{point}
@@ -86,9 +88,10 @@ module _ (hash : List ℕ → Digest) (p : Params) (context file : List ℕ) whe
     by-rule : {c d : ℕ} → Refused c d → PieceRow c d
     so-far : NoFault → PieceRow open-so-far (length file)
 
-  -- The rows of a whole file's verdict.
-  pub data VerdictRow : ℕ → ℕ → Type 0 where
-    not-valid : ¬ Valid p → VerdictRow parameters-not-valid 0
-    by-rule : {c d : ℕ} → Valid p → Refused c d → VerdictRow c d
-    whole : Valid p → NoFault → length file ≡ fileLength p → VerdictRow accepted (fileLength p)
-    too-few : Valid p → NoFault → length file < fileLength p → VerdictRow too-few-bytes (length file)
+-- The rows of a whole file's verdict, for an opening with these arguments.
+pub data VerdictRow (hash : List ℕ → Digest) (a : Terms) (file : List ℕ) : ℕ → ℕ → Type 0 where
+  not-admitted : ¬ Admitted a → VerdictRow hash a file (admissionOf a) 0
+  by-rule : {c d : ℕ} → Admitted a → Refused hash (a .params) (a .context) file c d → VerdictRow hash a file c d
+  whole : Admitted a → NoFault hash (a .params) (a .context) file → length file ≡ fileLength (a .params) → VerdictRow hash a file accepted (length file)
+  too-few : Admitted a → NoFault hash (a .params) (a .context) file → length file < fileLength (a .params)
+      → VerdictRow hash a file too-few-bytes (length file)

@@ -8,7 +8,7 @@ use native.Mathlib.Nat.{mod-lt}
 use native.Mathlib.Omega.{arith}
 use borrow.Author.Tests.{le-leb, lt-leb}
 use lib.Dec.{leb, lit<}
-use lib.ListN.{length, getD, replicate, getD-replicate}
+use lib.ListN.{length, getD, replicate}
 use Rattle.answer.specs.Table.{answered, open-so-far, message-too-long}
 use Rattle.sha256.specs.declared.Hashed.{Hashed}
 use Rattle.sha256.specs.Sha256.{pad, absorb, bytesOf, sha256}
@@ -46,14 +46,10 @@ pub answer : (m : List ℕ) {h d : List ℕ} {n : ℕ} → h ≡ finalWords m �
 unfolding hashed finalWords hashNumber
 answer m p q r = rw (q, p, r) (answer-by (leb (length m) 4096) m)
 
--- what callers see of the two answers
+-- what callers see of the answer
 pub hashed-short : (m : List ℕ) → length m ≤ 4096 → hashed m ≡ digested m
 unfolding hashed
 hashed-short m h = rw (le-leb _ _ h)
-
-pub hashed-long : (m : List ℕ) → 4096 < length m → hashed m ≡ tooLong
-unfolding hashed
-hashed-long m h = rw (lt-leb _ _ h)
 
 -- a digest is 32 bytes
 pub length-sha256 : (m : List ℕ) → length (sha256 m) ≡ 32
@@ -63,20 +59,3 @@ length-sha256 m = length-build _ 32
 pub sha256-byte : (m : List ℕ) (i : ℕ) → i < 32 → getD (sha256 m) i 0 < 256
 unfolding sha256 bytesOf
 sha256-byte m i h = rw (getD-build _ 32 i h) (mod-lt _ (lit< tt))
-
--- the digest of every answer is 32 bytes
-by-length : (b : Bool) (m : List ℕ) → length (cond b (digested m) tooLong .digest) ≡ 32
-by-length true m = length-sha256 m
-by-length false m = refl
-
-pub length-hashed : (m : List ℕ) → length (hashed m .digest) ≡ 32
-unfolding hashed
-length-hashed m = by-length (leb (length m) 4096) m
-
-by-byte : (b : Bool) (m : List ℕ) (i : ℕ) → i < 32 → getD (cond b (digested m) tooLong .digest) i 0 < 256
-by-byte true m i h = sha256-byte m i h
-by-byte false m i h = rw (getD-replicate {A = ℕ} 32 i 0 0 h) (lit< tt)
-
-pub hashed-byte : (m : List ℕ) (i : ℕ) → i < 32 → getD (hashed m .digest) i 0 < 256
-unfolding hashed
-hashed-byte m i h = by-byte (leb (length m) 4096) m i h

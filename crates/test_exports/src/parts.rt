@@ -60,10 +60,10 @@ pub extern "C" fn test_point(n: u8, layer: u8, index: u32) -> u32
 
 #[no_mangle]
 pub extern "C" fn test_leaf(a: u32, c: u32, out: &mut [u8; 32])
-    ensures { λ _. ⌜ now (out .exit) ≡ merkle.leaf sha256 (a ∷ c ∷ []) ⌝ }
+    ensures { λ _. ⌜ now (out .exit) ≡ merkle.leafDigest sha256 0 (a ∷ c ∷ []) ⌝ }
 {
     let values = [a, c, 0, 0];
-    let d = merkle::leaf(values, 2);
+    let d = merkle::leaf_digest(0, values, 2);
     *out = d;
 }
 

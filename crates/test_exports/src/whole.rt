@@ -1,17 +1,23 @@
 // The verdict on a whole proof, and the writer of one.
 ghost use mathlib.Core.Path.{_≡_};
 ghost use Rattle.sha256.specs.Sha256.{sha256};
+ghost use Rattle.params.specs.Admission.{termsOf};
 ghost use Rattle.fri.specs.Judge as judge;
 ghost use Rattle.writer.specs.Writer as writer;
 use answer::Answer;
 use params::Params;
+use params::Terms;
 
 #[no_mangle]
 pub extern "C" fn test_verdict(p: Params, context: &[u8; 32], proof: &[u8]) -> Answer
-    ensures { λ r. ⌜ r ≡ judge.verdict sha256 p (now (context .entry)) (now (proof .entry)) ⌝ }
+    ensures { λ r. ⌜ r ≡ judge.verdict sha256 (termsOf p (now (context .entry))) (now (proof .entry)) ⌝ }
 {
     let c = *context;
-    verdict::whole(p, c, proof)
+    let a = Terms {
+        params: p,
+        context: c,
+    };
+    verdict::whole(a, proof)
 }
 
 #[no_mangle]
@@ -21,10 +27,14 @@ pub extern "C" fn test_verdict_in_pieces(
     proof: &[u8],
     size: usize,
 ) -> Answer
-    ensures { λ r. ⌜ r ≡ judge.verdict sha256 p (now (context .entry)) (now (proof .entry)) ⌝ }
+    ensures { λ r. ⌜ r ≡ judge.verdict sha256 (termsOf p (now (context .entry))) (now (proof .entry)) ⌝ }
 {
     let c = *context;
-    verdict::in_pieces(p, c, proof, size)
+    let a = Terms {
+        params: p,
+        context: c,
+    };
+    verdict::in_pieces(a, proof, size)
 }
 
 #[no_mangle]

@@ -12,8 +12,9 @@ use Rattle.sha256.specs.Constants.{roundConstants, initialHash}
 use Rattle.sha256.specs.Sha256.{zeros, lengthByte, pad, word, block, nextWord, extend, schedule, sum1, sum2, round, rounds, addWords, compress, absorb, bytesOf, sha256}
 use Rattle.message.specs.Bytes.{le, num, joined, words}
 use Rattle.params.specs.Parameters.{valid, finalCount}
+use Rattle.params.specs.Admission.{termsOf, admission}
 use Rattle.domain.specs.Domain.{point}
-use Rattle.merkle.specs.Merkle.{leaf, node, join, climb}
+use Rattle.merkle.specs.Merkle.{leafDigest, node, join, climb}
 use Rattle.transcript.specs.Transcript.{start, challenge, finish, drawn, absorbed}
 use Rattle.transcript.specs.Transcript as transcript
 use Rattle.fold.specs.Poly.{eval}
@@ -31,8 +32,8 @@ point-0 : point 2 0 0 ≡ 5
 unfolding point
 point-0 = ap (mulMod (powMod 5 1)) (powMod-zero (subgroupGenerator 2)) ∙ times-one
 
-pub flipped : verdict sha256 parameters context (file 45) ≡ answered path-misses-root 88
-unfolding context file valid finalCount num joined words le leaf node join climb start transcript.absorb challenge finish drawn absorbed agrees left outcome run pure _>>=_ _>>_ bytes ensure many sameBytes count number valueAt walk queries sections judgement endAnswer verdict addMod subMod mulMod build shr rotr ch maj bigSigma0 bigSigma1 smallSigma0 smallSigma1 roundConstants initialHash zeros lengthByte pad word block nextWord extend schedule sum1 sum2 round rounds addWords compress absorb bytesOf sha256
+pub flipped : verdict sha256 (termsOf parameters context) (file 45) ≡ answered path-misses-root 88
+unfolding context file valid admission finalCount num joined words le leafDigest node join climb start transcript.absorb challenge finish drawn absorbed agrees left outcome run pure _>>=_ _>>_ bytes ensure many sameBytes count number valueAt walk queries sections judgement endAnswer verdict addMod subMod mulMod build shr rotr ch maj bigSigma0 bigSigma1 smallSigma0 smallSigma1 roundConstants initialHash zeros lengthByte pad word block nextWord extend schedule sum1 sum2 round rounds addWords compress absorb bytesOf sha256
 flipped = refl
 
 -- The last test of the file, with the point x of leaf 0 in layer 0 and the final polynomial's value v: 2·x·v = x·(a+c) + β·(a−c).
@@ -42,7 +43,7 @@ last-test x v = agrees (mulMod 2 x) (addMod (mulMod x (addMod 581943340 21479030
 -- Every byte is read, and this test is all that is left.
 read : left (judgement sha256 parameters context) (file 44) 0
     ≡ left (ensure (last-test (point 2 0 0) (eval (2956924926 ∷ []) (point 2 1 0))) misses-final-polynomial (λ _. done)) [] 88
-unfolding context file valid finalCount num joined words le leaf node join climb start transcript.absorb challenge finish drawn absorbed agrees left outcome run pure _>>=_ _>>_ bytes ensure many sameBytes count number valueAt walk queries sections judgement endAnswer verdict addMod subMod mulMod build shr rotr ch maj bigSigma0 bigSigma1 smallSigma0 smallSigma1 roundConstants initialHash zeros lengthByte pad word block nextWord extend schedule sum1 sum2 round rounds addWords compress absorb bytesOf sha256
+unfolding context file valid admission finalCount num joined words le leafDigest node join climb start transcript.absorb challenge finish drawn absorbed agrees left outcome run pure _>>=_ _>>_ bytes ensure many sameBytes count number valueAt walk queries sections judgement endAnswer verdict addMod subMod mulMod build shr rotr ch maj bigSigma0 bigSigma1 smallSigma0 smallSigma1 roundConstants initialHash zeros lengthByte pad word block nextWord extend schedule sum1 sum2 round rounds addWords compress absorb bytesOf sha256
 read = refl
 
 constant : (y : ℕ) → eval (2956924926 ∷ []) y ≡ 2956924926
@@ -56,7 +57,7 @@ passes = refl
 test : last-test (point 2 0 0) (eval (2956924926 ∷ []) (point 2 1 0)) ≡ true
 test = ap₂ last-test point-0 (constant (point 2 1 0)) ∙ passes
 
-pub whole : verdict sha256 parameters context (file 44) ≡ answered accepted 88
-unfolding verdict valid file run outcome left ensure endAnswer
+pub whole : verdict sha256 (termsOf parameters context) (file 44) ≡ answered accepted 88
+unfolding verdict valid admission file run outcome left ensure endAnswer
 whole =
     ap (λ l. endAnswer (outcome (l .process) (l .held) (l .place)) 88) (read ∙ ap (λ b. left (ensure b misses-final-polynomial (λ _. done)) [] 88) test)

@@ -3,24 +3,25 @@
 use Prim.Native.Nat.{ℕ, zero, suc, _+_, _*_, _^_, _-_, _%_, _≤_, _<_}
 use mathlib.Core.List.{List, [], _∷_, _++_, append-assoc}
 use mathlib.Core.Path.{_≡_, refl, sym, ap, ap₂, _∙_}
-use native.Mathlib.Nat.{one-le-pow}
+use native.Mathlib.Nat.{one-le-pow, suc-mul, mul-le-mul-right}
 use native.Mathlib.Numerals.{add-one}
 use native.Mathlib.Omega.{arith}
-use lib.ListN.{length, getD, set, take, drop, length-drop}
-use lib.Seq.{sets, length-sets, take-add, drop-drop, take-at, drop-at, take-all, take-suc, take-suc-set, getD-drop}
+use lib.ListN.{length, getD, set, take, drop}
+use lib.Seq.{sets, length-sets, take-add, drop-drop, take-at, drop-at, take-suc-set}
 use Rattle.message.specs.Bytes.{joined, part}
 use Rattle.message.specs.Message.{Digest, taggedHash}
 use Rattle.message.proofs.Bytes.{Sized, none, more, joined-length, joined-snoc}
 use Rattle.sha256.specs.Sha256.{sha256}
 use Rattle.sha256.proofs.HashLaws.{length-sha256}
-use Rattle.merkle.specs.Merkle.{leaf, node, above, digests, sibling}
+use Rattle.merkle.specs.Merkle.{leafDigest, node, above, digests, sibling}
 use Rattle.merkle.proofs.MerkleLaws.{tagged-node}
+use Rattle.merkle.proofs.Opens.{leaf-all}
 use Rattle.message.specs.Lists.{tabulate}
 use Rattle.message.proofs.Tabulate.{tabulate-length, tabulate-snoc, tabulate-sized}
 use Rattle.buffer.specs.Buffer.{put}
 use Rattle.buffer.proofs.BufferLaws.{put-fits}
-use Rattle.buffer.proofs.Placed.{part-length, part-drop, part-before, drop-sets, sets-behind}
-use Rattle.tree.specs.Tree.{treeSize, leafRow}
+use Rattle.buffer.proofs.Placed.{part-length, part-drop, part-before, drop-sets, sets-behind, sets-all}
+use Rattle.tree.specs.Tree.{treeSize, valuesOf, leafRow}
 
 -- Digests stored in l one after the other, from index at on: one digest more, and a loop's turn that puts it.
 pub blocks-more : (l : List ℕ) (at n : ℕ) (g : ℕ → Digest) → ((i : ℕ) → length (g i) ≡ 32)
@@ -69,25 +70,43 @@ pub size-even : (d : ℕ) → treeSize d + 32 ≡ 64 * 2 ^ d
 unfolding treeSize
 size-even d = omega (arith, one-le-pow d 2 (omega arith))
 
--- Leaf m over a layer's values, and a loop that writes the leaves: one more, and the end.
-abbrev pub leafAt : ℕ → List ℕ → ℕ → Digest
-leafAt d values m = leaf sha256 (getD values m 0 ∷ getD values (m + 2 ^ d) 0 ∷ [])
+-- A loop that copies the values of leaf m: none, one more, and all; the place of the next, and that it is inside.
+pub values-none : (values : List ℕ) (count m : ℕ) → [] ≡ valuesOf 0 count values m
+unfolding valuesOf tabulate
+values-none values count m = refl
 
-pub plant-more : {r e : List ℕ} (l values : List ℕ) (d half m : ℕ) → half ≡ 2 ^ d → 32 * half ≤ length l → m < half
-    → r ≡ sets l 0 (joined (tabulate m (leafAt d values))) → e ≡ leaf sha256 (getD values m 0 ∷ getD values (half + m) 0 ∷ [])
-    → put r (32 * m) e ≡ sets l 0 (joined (tabulate (m + 1) (leafAt d values)))
-unfolding leaf
-plant-more l values d half m q h b p e =
-    let on : half + m ≡ m + 2 ^ d = omega arith in
-    block-put l 0 (32 * m) m (leafAt d values) (λ k. length-sha256 _) (omega arith) (omega arith) p
-    (e ∙ ap (λ (k : ℕ). leaf sha256 (getD values m 0 ∷ getD values k 0 ∷ [])) on)
+pub values-done : {perLeaf : ℕ} (leaf values : List ℕ) (count m r : ℕ) → r ≡ perLeaf → take r leaf ≡ valuesOf r count values m
+    → take perLeaf leaf ≡ valuesOf perLeaf count values m
+values-done leaf values count m r e p = rw (sym e) p
 
-pub plant-done : {r : List ℕ} (l values : List ℕ) (d half m : ℕ) → half ≡ 2 ^ d → m ≤ half → half ≤ m
-    → r ≡ sets l 0 (joined (tabulate m (leafAt d values))) → r ≡ sets l 0 (joined (leafRow sha256 d values))
-unfolding leafRow
-plant-done l values d half m q h k p =
-    let all : m ≡ 2 ^ d = omega arith in
-    p ∙ ap (λ (n : ℕ). sets l 0 (joined (tabulate n (leafAt d values)))) all
+pub values-more : (leaf values : List ℕ) (count m at r : ℕ) → at ≡ m + r * count → r < length leaf → take r leaf ≡ valuesOf r count values m
+    → take (r + 1) (set leaf r (getD values at 0)) ≡ valuesOf (r + 1) count values m
+unfolding valuesOf
+values-more leaf values count m at r e h p =
+    rw (add-one r, take-suc-set leaf r (getD values at 0) h, p, e) (sym (tabulate-snoc r (λ (i : ℕ). getD values (m + i * count) 0)))
+
+pub value-next : {at : ℕ} (count m r : ℕ) → at ≡ m + r * count → at + count ≡ m + (r + 1) * count
+value-next count m r e = omega (arith, ap (λ (k : ℕ). k * count) (add-one r), suc-mul r count)
+
+pub value-inside : {at : ℕ} (perLeaf count m r : ℕ) → m < count → r < perLeaf → at ≡ m + r * count → at < perLeaf * count
+value-inside perLeaf count m r h k e = omega (arith, mul-le-mul-right {m = suc r} {n = perLeaf} count k, suc-mul r count)
+
+-- The digest of leaf m of a layer, and a loop that writes them: one more, and the end.
+abbrev pub leafAt : ℕ → ℕ → ℕ → List ℕ → ℕ → Digest
+leafAt j perLeaf d values m = leafDigest sha256 j (valuesOf perLeaf (2 ^ d) values m)
+
+module _ (j perLeaf d count : ℕ) (l values : List ℕ) (all : count ≡ 2 ^ d) where
+  pub leaves-more : {r e : List ℕ} (v : List ℕ) (m : ℕ) → 32 * count ≤ length l → m < count → r ≡ sets l 0 (joined (tabulate m (leafAt j perLeaf d values)))
+      → take perLeaf v ≡ valuesOf perLeaf count values m → e ≡ leafDigest sha256 j (take perLeaf v)
+      → put r (32 * m) e ≡ sets l 0 (joined (tabulate (m + 1) (leafAt j perLeaf d values)))
+  leaves-more v m h b p q e =
+      block-put l 0 (32 * m) m (leafAt j perLeaf d values) (λ k. leaf-all sha256 (λ x. length x ≡ 32) length-sha256 j _) (omega arith) (omega arith) p
+      (e ∙ ap (leafDigest sha256 j) (q ∙ ap (λ (k : ℕ). valuesOf perLeaf k values m) all))
+
+  pub leaves-done : {r : List ℕ} (m : ℕ) → m ≡ count → r ≡ sets l 0 (joined (tabulate m (leafAt j perLeaf d values)))
+      → r ≡ sets l 0 (joined (leafRow sha256 j perLeaf d values))
+  unfolding leafRow
+  leaves-done m h p = p ∙ ap (λ (n : ℕ). sets l 0 (joined (tabulate n (leafAt j perLeaf d values)))) (h ∙ all)
 
 -- Node i above digests that stand one after the other.
 abbrev pub pairAt : (List ℕ → Digest) → List ℕ → ℕ → Digest
@@ -139,22 +158,19 @@ row-done l from to count i q h k p =
     let all : i ≡ count = omega arith in
     p ∙ rw (q, all, above-pairs sha256 count (drop from l))
 
--- The node above two parts of a room.
+-- The node above two parts of a space.
 pub node-parts : {r : Digest} (xs : List ℕ) (i n k : ℕ) → i + 64 ≤ length xs → n ≡ 32 → k ≡ 32
     → r ≡ taggedHash 1 (take n (drop i xs)) (take k (drop (i + 32) xs)) → r ≡ node sha256 (part i 32 xs) (part (i + 32) 32 xs)
 unfolding part
 node-parts {r} xs i n k h p q e =
     e ∙ rw (p, q) (tagged-node _ _ (part-length i 32 xs (omega arith)) (part-length (i + 32) 32 xs (omega arith)))
 
--- A loop that copies 32 bytes out of xs: one byte more.
-pub digest-more : (d xs : List ℕ) (at i : ℕ) → take i d ≡ take i (drop at xs) → i < length d → at + i < length xs
-    → take (i + 1) (set d i (getD xs (at + i) 0)) ≡ take (i + 1) (drop at xs)
-digest-more d xs at i e h k =
-    rw (add-one i, take-suc-set d i (getD xs (at + i) 0) h, e, take-suc (drop at xs) i 0 (omega (arith, length-drop at xs)), getD-drop at xs i 0)
-
-pub digest-done : (d xs : List ℕ) (at i : ℕ) → take i d ≡ take i (drop at xs) → i ≡ 32 → length d ≡ 32 → d ≡ part at 32 xs
+-- A digest copied out of xs.
+pub digest-read : {r : List ℕ} (d xs : List ℕ) (at n : ℕ) → length d ≡ 32 → n ≡ 32 → at + 32 ≤ length xs → r ≡ put d 0 (take n (drop at xs)) → r ≡ part at 32 xs
 unfolding part
-digest-done d xs at i e p q = sym (take-all 32 d (omega arith)) ∙ rw p at e
+digest-read d xs at n e q h p =
+    let long : length (part at 32 xs) ≡ 32 = part-length at 32 xs h in
+    p ∙ ap (λ (k : ℕ). put d 0 (take k (drop at xs))) q ∙ put-fits d 0 (part at 32 xs) (omega arith) ∙ sets-all d (part at 32 xs) (long ∙ sym e)
 
 -- A node's sibling, by the node's side.
 pub sibling-even : (m : ℕ) → m % 2 ≡ 0 → m + 1 ≡ sibling (m % 2) m

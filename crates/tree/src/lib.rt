@@ -1,7 +1,8 @@
-// A Merkle tree in lent bytes: its rows one after the other, the leaves first and the root last, and the path of a leaf read from there.
+// A Merkle tree in lent bytes: the digests of a layer's leaves, the tree over digests, whose rows stand one after the other with the root last, and
+// the path of a leaf read from there.
 ghost use mathlib.Core.Path.{_≡_};
 ghost use Prim.Native.Nat.{_+_, _*_, _^_, _%_, _≤_, _<_};
-ghost use lib.ListN.{length, drop};
+ghost use lib.ListN.{length, take, drop};
 ghost use lib.Seq.{sets};
 ghost use Rattle.sha256.specs.Sha256.{sha256};
 ghost use Rattle.message.specs.Bytes.{joined, part};
@@ -16,54 +17,87 @@ fn leaves(height: u8) -> usize
     1usize << height
 }
 
-// The leaves over a layer's values, to the front.
-fn plant(values: &[u32], height: u8, half: usize, room: &mut [u8])
-    requires { ⌜ (half ≡ 2 ^ height) × ((length (now values) ≡ 2 * half) × (32 * half ≤ length (now room))) ⌝ }
-    ensures { λ _. ⌜ now (room .exit) ≡ sets (now (room .entry)) 0 (joined (spec.leafRow sha256 height (now (values .entry)))) ⌝ }
+// The values of leaf m, where so many leaves have so many values each.
+fn values_of(per: usize, count: usize, values: &[u32], m: usize) -> [u32; 4]
+    requires { ⌜ ((per ≤ 4) × (count ≤ 1073741824)) × ((m < count) × (length (now values) ≡ per * count)) ⌝ }
+    ensures { λ r. ⌜ take per r ≡ spec.valuesOf per count (now (values .entry)) m ⌝ }
+{
+    let mut leaf = [0u32; 4];
+    let mut at = m;
+    let mut r = 0;
+    while r < per {
+        leaf[r] = values[at];
+        at += count;
+        r += 1;
+    }
+    leaf
+}
+
+// The digests of a layer's leaves, which fit, to the front.
+fn put_leaves(layer: u8, per: usize, height: u8, count: usize, values: &[u32], space: &mut [u8])
+    requires { ⌜ ((count ≡ 2 ^ height) × (count ≤ 1073741824)) × ((per ≤ 4) × ((length (now values) ≡ per * count) × (32 * count ≤ length (now space)))) ⌝ }
+    ensures { λ _. ⌜ now (space .exit) ≡ sets (now (space .entry)) 0 (joined (spec.leafRow sha256 layer per height (now (values .entry)))) ⌝ }
 {
     let mut m = 0;
-    while m < half {
-        let digest = merkle::leaf([values[m], values[half + m], 0, 0], 2);
-        buffer::put(room, 32 * m, &digest);
+    while m < count {
+        let leaf = values_of(per, count, values, m);
+        let digest = merkle::leaf_digest(layer, leaf, per);
+        buffer::put(space, 32 * m, &digest);
         m += 1;
     }
 }
 
+// The digests of a layer's leaves over its values, to the front of a space.
+pub fn hash_leaves(layer: u8, per: usize, height: u8, values: &[u32], space: &mut [u8])
+    ensures { λ _. ⌜ now (space .exit) ≡ spec.leavesPut sha256 layer per height (now (values .entry)) (now (space .entry)) ⌝ }
+{
+    if height <= 30 {
+        let count = leaves(height);
+        if per <= 4 {
+            if values.len() == per * count {
+                if 32 * count <= space.len() {
+                    put_leaves(layer, per, height, count, values, space);
+                }
+            }
+        }
+    }
+}
+
 // The node above two digests that stand one after the other.
-fn node_above(room: &[u8], at: usize) -> [u8; 32]
-    requires { ⌜ at + 64 ≤ length (now room) ⌝ }
-    ensures { λ r. ⌜ r ≡ merkle.node sha256 (part at 32 (now (room .entry))) (part (at + 32) 32 (now (room .entry))) ⌝ }
+fn node_above(space: &[u8], at: usize) -> [u8; 32]
+    requires { ⌜ at + 64 ≤ length (now space) ⌝ }
+    ensures { λ r. ⌜ r ≡ merkle.node sha256 (part at 32 (now (space .entry))) (part (at + 32) 32 (now (space .entry))) ⌝ }
 {
     let middle = at + 32;
     let end = at + 64;
-    message::tagged_hash(1, &room[at..middle], &room[middle..end])
+    message::tagged_hash(1, &space[at..middle], &space[middle..end])
 }
 
 // The row of count nodes above the row that starts at from, behind it.
-fn row(room: &mut [u8], from: usize, count: usize)
-    requires { ⌜ from + 96 * count ≤ length (now room) ⌝ }
-    ensures { λ _. ⌜ now (room .exit) ≡ sets (now (room .entry)) (from + 64 * count) (joined (merkle.above sha256 (merkle.digests (2 * count) (drop from (now (room .entry)))))) ⌝ }
+fn row(space: &mut [u8], from: usize, count: usize)
+    requires { ⌜ from + 96 * count ≤ length (now space) ⌝ }
+    ensures { λ _. ⌜ now (space .exit) ≡ sets (now (space .entry)) (from + 64 * count) (joined (merkle.above sha256 (merkle.digests (2 * count) (drop from (now (space .entry)))))) ⌝ }
 {
     let to = from + 64 * count;
     let mut i = 0;
     while i < count {
-        let node = node_above(&room[..], from + 64 * i);
-        buffer::put(room, to + 32 * i, &node);
+        let node = node_above(&space[..], from + 64 * i);
+        buffer::put(space, to + 32 * i, &node);
         i += 1;
     }
 }
 
 // All rows above the leaves.
-fn rise(room: &mut [u8], height: u8)
-    requires { ⌜ (height ≤ 30) × (length (now room) ≡ spec.treeSize height) ⌝ }
-    ensures { λ _. ⌜ now (room .exit) ≡ spec.rows sha256 height (merkle.digests (2 ^ height) (now (room .entry))) ⌝ }
+fn hash_rows(space: &mut [u8], height: u8)
+    requires { ⌜ (height ≤ 30) × (length (now space) ≡ spec.treeSize height) ⌝ }
+    ensures { λ _. ⌜ now (space .exit) ≡ spec.rows sha256 height (merkle.digests (2 ^ height) (now (space .entry))) ⌝ }
 {
     let mut from = 0;
     let mut above = height;
     while 0 < above {
         above -= 1;
         let count = leaves(above);
-        row(room, from, count);
+        row(space, from, count);
         from += 64 * count;
     }
 }
@@ -73,28 +107,21 @@ fn digest_at(bytes: &[u8], at: usize) -> [u8; 32]
     ensures { λ r. ⌜ r ≡ part at 32 (now (bytes .entry)) ⌝ }
 {
     let mut digest = [0u8; 32];
-    let mut i = 0;
-    while i < 32 {
-        digest[i] = bytes[at + i];
-        i += 1;
-    }
+    let end = at + 32;
+    buffer::put(&mut digest, 0, &bytes[at..end]);
     digest
 }
 
-// The tree over a layer's values. Answers its root.
-pub fn grow(values: &[u32], height: u8, room: &mut [u8]) -> [u8; 32]
-    ensures { λ r. ⌜ r ≡ spec.grownRoot sha256 height (now (values .entry)) (now (room .entry)) ⌝ }
-    ensures { λ _. ⌜ now (room .exit) ≡ spec.grown sha256 height (now (values .entry)) (now (room .entry)) ⌝ }
+// The tree over the digests in the front of a space. Answers its root.
+pub fn build(height: u8, space: &mut [u8]) -> [u8; 32]
+    ensures { λ r. ⌜ r ≡ spec.rootOver sha256 height (now (space .entry)) ⌝ }
+    ensures { λ _. ⌜ now (space .exit) ≡ spec.treeOver sha256 height (now (space .entry)) ⌝ }
 {
     if height <= 30 {
-        let half = leaves(height);
-        let size = 64 * half - 32;
-        if values.len() == 2 * half {
-            if room.len() == size {
-                plant(values, height, half, room);
-                rise(room, height);
-                return digest_at(&room[..], size - 32);
-            }
+        let size = 64 * leaves(height) - 32;
+        if space.len() == size {
+            hash_rows(space, height);
+            return digest_at(&space[..], size - 32);
         }
     }
     [0u8; 32]

@@ -1,16 +1,15 @@
 -- The answers of open, piece and end together are the verdict on the bytes that were fed, in whatever pieces.
 -- Assumes nothing.
 use mathlib.Core.Path.{_≡_, refl, sym, ap, _∙_}
-use mathlib.Core.Bool.{Bool, true, false, false≢true}
 use mathlib.Core.List.{List}
 use Prim.Native.Nat.{ℕ, _+_, _-_, _≤_}
 use native.Mathlib.Omega.{arith}
 use lib.ListN.{length, take, drop}
 use lib.Seq.{take-length, take-add}
 use Rattle.sha256.specs.Sha256.{sha256}
-use Rattle.params.specs.declared.Params.{Params}
-use Rattle.params.specs.Parameters.{valid}
-use Rattle.params.proofs.ParameterLaws.{valid-facts, valid-test}
+use Rattle.answer.specs.declared.Answer.{Answer}
+use Rattle.answer.specs.Table.{open-so-far}
+use Rattle.params.specs.declared.Terms.{Terms}
 use Rattle.fri.specs.Judge.{verdict}
 use Rattle.reader_model.specs.declared.Reader.{Reader}
 use Rattle.reader_model.specs.declared.Reply.{Reply}
@@ -24,18 +23,20 @@ pub piece-state : (r : Reader) (bytes : List ℕ) {reply : Reply} → reply ≡ 
 unfolding pieced
 piece-state r bytes e = ap (λ (x : Reply). x .state) e
 
-pub valid-verdict : {b : Bool} (p : Params) (context bytes : List ℕ) {start end : Reply} {last : Reader} → b ≡ valid p → b ≡ true
-    → start ≡ opened sha256 p context → last ≡ fed sha256 (start .state) bytes → end ≡ ended last → end .answer ≡ verdict sha256 p context bytes
-valid-verdict p context bytes d t e f g =
+-- The opening's own answer tells whether it is admitted.
+pub admitted-verdict : (a : Terms) (bytes : List ℕ) {start end : Reply} {last : Reader} → start ≡ opened sha256 a → start .answer .number ≡ open-so-far
+    → last ≡ fed sha256 (start .state) bytes → end ≡ ended last → end .answer ≡ verdict sha256 a bytes
+unfolding opened
+admitted-verdict a bytes e n f g =
     ap (λ (x : Reply). x .answer) g
     ∙ ap (λ (x : Reader). ended x .answer) (f ∙ ap (λ (x : Reply). fed sha256 (x .state) bytes) e)
-    ∙ verdict-fed sha256 p context (valid-facts p (sym d ∙ t)) bytes
+    ∙ verdict-fed sha256 a (sym (ap (λ (x : Reply). x .answer .number) e) ∙ n) bytes
 
-pub refused-verdict : {b : Bool} (p : Params) (context bytes : List ℕ) {start : Reply} → b ≡ valid p → b ≡ false → start ≡ opened sha256 p context
-    → start .answer ≡ verdict sha256 p context bytes
-refused-verdict p context bytes d f e =
-    ap (λ (x : Reply). x .answer) e
-    ∙ verdict-refused sha256 p context bytes (λ v. false≢true (sym f ∙ d ∙ valid-test p v))
+pub refused-verdict : (a : Terms) (bytes : List ℕ) {start : Reply} → start ≡ opened sha256 a → ¬ (start .answer .number ≡ open-so-far)
+    → start .answer ≡ verdict sha256 a bytes
+unfolding opened
+refused-verdict a bytes e n =
+    ap (λ (x : Reply). x .answer) e ∙ verdict-refused sha256 a bytes (λ v. n (ap (λ (x : Reply). x .answer .number) e ∙ v))
 
 -- One piece more, fed to what a caller holds.
 pub fed-more : {s : Reader} {x : Outcome} (r : Reader) (bytes : List ℕ) (at to : ℕ) → at ≤ to → s ≡ fed sha256 r (take at bytes)
@@ -57,15 +58,17 @@ pub fed-all : {s : Reader} (r : Reader) (bytes : List ℕ) (at : ℕ) → at ≡
 fed-all r bytes at e f = f ∙ ap (fed sha256 r) (ap (λ (n : ℕ). take n bytes) e ∙ take-length bytes)
 
 -- The same of what a caller holds: the opening's outcome, the reader after the bytes, the end call's outcome.
-pub valid-outcome : {b : Bool} (p : Params) (context bytes : List ℕ) {start end : Outcome} {last : Reader} → b ≡ valid p → b ≡ true
-    → start ≡ outcomeOf (opened sha256 p context) → last ≡ fed sha256 (readerOf (start .held)) bytes → end ≡ outcomeOf (ended last)
-    → end .answer ≡ verdict sha256 p context bytes
-valid-outcome p context bytes {last = last} d t e f g =
-    let first = opened sha256 p context in
-    answered-by (ended last) g ∙ valid-verdict p context bytes {start = first} d t refl (f ∙ ap (λ (r : Reader). fed sha256 r bytes) (left-by first e)) refl
+pub admitted-outcome : (a : Terms) (bytes : List ℕ) {start end : Outcome} {last : Reader} → start ≡ outcomeOf (opened sha256 a)
+    → start .answer .number ≡ open-so-far → last ≡ fed sha256 (readerOf (start .held)) bytes → end ≡ outcomeOf (ended last)
+    → end .answer ≡ verdict sha256 a bytes
+admitted-outcome a bytes {last = last} e n f g =
+    let first = opened sha256 a in
+    answered-by (ended last) g
+    ∙ admitted-verdict a bytes {start = first} refl (sym (ap (λ (x : Answer). x .number) (answered-by first e)) ∙ n)
+    (f ∙ ap (λ (r : Reader). fed sha256 r bytes) (left-by first e)) refl
 
-pub refused-outcome : {b : Bool} (p : Params) (context bytes : List ℕ) {start : Outcome} → b ≡ valid p → b ≡ false → start ≡ outcomeOf (opened sha256 p context)
-    → start .answer ≡ verdict sha256 p context bytes
-refused-outcome p context bytes d f e =
-    let first = opened sha256 p context in
-    answered-by first e ∙ refused-verdict p context bytes {start = first} d f refl
+pub refused-outcome : (a : Terms) (bytes : List ℕ) {start : Outcome} → start ≡ outcomeOf (opened sha256 a) → ¬ (start .answer .number ≡ open-so-far)
+    → start .answer ≡ verdict sha256 a bytes
+refused-outcome a bytes e n =
+    let first = opened sha256 a in
+    answered-by first e ∙ refused-verdict a bytes {start = first} refl (λ m. n (ap (λ (x : Answer). x .number) (answered-by first e) ∙ m))

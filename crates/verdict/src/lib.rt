@@ -5,27 +5,32 @@ ghost use mathlib.Core.Path.{_≡_};
 ghost use Rattle.sha256.specs.Sha256.{sha256};
 ghost use Rattle.fri.specs.Judge as judge;
 use answer::Answer;
-use params::Params;
+use lent_reader::SIZES;
+use lent_reader::U8S;
+use lent_reader::U32S;
+use params::Terms;
+use reader_model::CHALLENGES;
+use reader_model::COEFFICIENTS;
+use reader_model::ROOTS;
 
 // The proof in one piece, which ends inside no item unless it is cut short, so it is read at once.
-pub fn whole(p: Params, context: [u8; 32], proof: &[u8]) -> Answer
-    ensures { λ r. ⌜ r ≡ judge.verdict sha256 p context (now (proof .entry)) ⌝ }
+pub fn whole(a: Terms, proof: &[u8]) -> Answer
+    ensures { λ r. ⌜ r ≡ judge.verdict sha256 a (now (proof .entry)) ⌝ }
 {
-    let mut marks = [0u8; 10];
-    let mut words = [0u32; 10];
-    let mut counts = [0usize; 2];
+    let mut u8s = [0u8; U8S];
+    let mut u32s = [0u32; U32S];
+    let mut sizes = [0usize; SIZES];
     let mut item = [0u8; 32];
     let mut node = [0u8; 32];
     let mut transcript = [0u8; 32];
-    let mut roots = [0u8; 512];
-    let mut challenges = [0u32; 16];
-    let mut coefficients = [0u32; 64];
+    let mut roots = [0u8; ROOTS];
+    let mut challenges = [0u32; CHALLENGES];
+    let mut coefficients = [0u32; COEFFICIENTS];
     let start = lent_reader::open(
-        p,
-        context,
-        &mut marks,
-        &mut words,
-        &mut counts,
+        a,
+        &mut u8s,
+        &mut u32s,
+        &mut sizes,
         &mut item,
         &mut node,
         &mut transcript,
@@ -33,11 +38,11 @@ pub fn whole(p: Params, context: [u8; 32], proof: &[u8]) -> Answer
         &mut challenges,
         &mut coefficients,
     );
-    if params::is_valid(p) {
+    if start.number == answer::OPEN {
         lent_reader::read(
-            &mut marks,
-            &mut words,
-            &mut counts,
+            &mut u8s,
+            &mut u32s,
+            &mut sizes,
             &mut item,
             proof,
             &mut node,
@@ -47,9 +52,9 @@ pub fn whole(p: Params, context: [u8; 32], proof: &[u8]) -> Answer
             &mut coefficients,
         );
         lent_reader::end(
-            &mut marks,
-            &mut words,
-            &mut counts,
+            &mut u8s,
+            &mut u32s,
+            &mut sizes,
             &mut item,
             &mut node,
             &mut transcript,
@@ -63,8 +68,8 @@ pub fn whole(p: Params, context: [u8; 32], proof: &[u8]) -> Answer
 }
 
 // The proof in pieces of `size` bytes, one byte at least.
-pub fn in_pieces(p: Params, context: [u8; 32], proof: &[u8], size: usize) -> Answer
-    ensures { λ r. ⌜ r ≡ judge.verdict sha256 p context (now (proof .entry)) ⌝ }
+pub fn in_pieces(a: Terms, proof: &[u8], size: usize) -> Answer
+    ensures { λ r. ⌜ r ≡ judge.verdict sha256 a (now (proof .entry)) ⌝ }
 {
-    pieces::judged(p, context, proof, size)
+    pieces::judged(a, proof, size)
 }

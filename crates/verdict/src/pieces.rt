@@ -7,7 +7,13 @@ ghost use Rattle.fri.specs.Judge as judge;
 ghost use Rattle.reader_model.specs.Model.{fed};
 ghost use Rattle.lent_reader.specs.Held.{held, readerOf};
 use answer::Answer;
-use params::Params;
+use lent_reader::SIZES;
+use lent_reader::U8S;
+use lent_reader::U32S;
+use params::Terms;
+use reader_model::CHALLENGES;
+use reader_model::COEFFICIENTS;
+use reader_model::ROOTS;
 
 // The end of the piece that begins at `at`: `size` bytes on, one at least, and not past the end.
 fn piece_end(at: usize, size: usize, length: usize) -> usize
@@ -26,27 +32,27 @@ fn piece_end(at: usize, size: usize, length: usize) -> usize
 
 // Feeds the proof to a reader that is lent, in pieces of `size` bytes.
 fn feed_in_pieces(
-    marks: &mut [u8; 10],
-    words: &mut [u32; 10],
-    counts: &mut [usize; 2],
+    u8s: &mut [u8; U8S],
+    u32s: &mut [u32; U32S],
+    sizes: &mut [usize; SIZES],
     item: &mut [u8; 32],
     node: &mut [u8; 32],
     transcript: &mut [u8; 32],
-    roots: &mut [u8; 512],
-    challenges: &mut [u32; 16],
-    coefficients: &mut [u32; 64],
+    roots: &mut [u8; ROOTS],
+    challenges: &mut [u32; CHALLENGES],
+    coefficients: &mut [u32; COEFFICIENTS],
     proof: &[u8],
     size: usize,
 )
-    ensures { λ _. ⌜ readerOf (held (now (marks .exit)) (now (words .exit)) (now (counts .exit)) (now (item .exit)) (now (node .exit)) (now (transcript .exit)) (now (roots .exit)) (now (challenges .exit)) (now (coefficients .exit))) ≡ fed sha256 (readerOf (held (now (marks .entry)) (now (words .entry)) (now (counts .entry)) (now (item .entry)) (now (node .entry)) (now (transcript .entry)) (now (roots .entry)) (now (challenges .entry)) (now (coefficients .entry)))) (now (proof .entry)) ⌝ }
+    ensures { λ _. ⌜ readerOf (held (now (u8s .exit)) (now (u32s .exit)) (now (sizes .exit)) (now (item .exit)) (now (node .exit)) (now (transcript .exit)) (now (roots .exit)) (now (challenges .exit)) (now (coefficients .exit))) ≡ fed sha256 (readerOf (held (now (u8s .entry)) (now (u32s .entry)) (now (sizes .entry)) (now (item .entry)) (now (node .entry)) (now (transcript .entry)) (now (roots .entry)) (now (challenges .entry)) (now (coefficients .entry)))) (now (proof .entry)) ⌝ }
 {
     let mut at = 0;
     while at < proof.len() {
         let to = piece_end(at, size, proof.len());
         lent_reader::piece(
-            marks,
-            words,
-            counts,
+            u8s,
+            u32s,
+            sizes,
             item,
             &proof[at..to],
             node,
@@ -60,24 +66,23 @@ fn feed_in_pieces(
 }
 
 // The opening, the pieces and the end call.
-pub fn judged(p: Params, context: [u8; 32], proof: &[u8], size: usize) -> Answer
-    ensures { λ r. ⌜ r ≡ judge.verdict sha256 p context (now (proof .entry)) ⌝ }
+pub fn judged(a: Terms, proof: &[u8], size: usize) -> Answer
+    ensures { λ r. ⌜ r ≡ judge.verdict sha256 a (now (proof .entry)) ⌝ }
 {
-    let mut marks = [0u8; 10];
-    let mut words = [0u32; 10];
-    let mut counts = [0usize; 2];
+    let mut u8s = [0u8; U8S];
+    let mut u32s = [0u32; U32S];
+    let mut sizes = [0usize; SIZES];
     let mut item = [0u8; 32];
     let mut node = [0u8; 32];
     let mut transcript = [0u8; 32];
-    let mut roots = [0u8; 512];
-    let mut challenges = [0u32; 16];
-    let mut coefficients = [0u32; 64];
+    let mut roots = [0u8; ROOTS];
+    let mut challenges = [0u32; CHALLENGES];
+    let mut coefficients = [0u32; COEFFICIENTS];
     let start = lent_reader::open(
-        p,
-        context,
-        &mut marks,
-        &mut words,
-        &mut counts,
+        a,
+        &mut u8s,
+        &mut u32s,
+        &mut sizes,
         &mut item,
         &mut node,
         &mut transcript,
@@ -85,11 +90,11 @@ pub fn judged(p: Params, context: [u8; 32], proof: &[u8], size: usize) -> Answer
         &mut challenges,
         &mut coefficients,
     );
-    if params::is_valid(p) {
+    if start.number == answer::OPEN {
         feed_in_pieces(
-            &mut marks,
-            &mut words,
-            &mut counts,
+            &mut u8s,
+            &mut u32s,
+            &mut sizes,
             &mut item,
             &mut node,
             &mut transcript,
@@ -100,9 +105,9 @@ pub fn judged(p: Params, context: [u8; 32], proof: &[u8], size: usize) -> Answer
             size,
         );
         lent_reader::end(
-            &mut marks,
-            &mut words,
-            &mut counts,
+            &mut u8s,
+            &mut u32s,
+            &mut sizes,
             &mut item,
             &mut node,
             &mut transcript,

@@ -1,29 +1,30 @@
 -- The parts of the lent buffers that a layer's calls are given, and what they leave in the whole. Assumes nothing.
 use Prim.Native.Nat.{ℕ, suc, _+_, _*_, _^_, _-_, _/_, _%_, _≤_, _<_}
-use mathlib.Core.Bool.{true, cond}
+use mathlib.Core.Bool.{true}
 use mathlib.Core.List.{List, _++_, append-assoc}
-use mathlib.Core.Path.{_≡_, sym, ap, ap₂, _∙_}
+use mathlib.Core.Path.{_≡_, refl, sym, ap, ap₂, _∙_}
 use native.Mathlib.Nat.{pow-suc}
 use native.Mathlib.Omega.{arith}
 use borrow.Author.Tests.{le-leb, eq-eqb}
-use lib.ListN.{length, take, drop, replicate, length-drop, take-append-drop}
+use lib.ListN.{length, take, drop, length-drop, take-append-drop}
 use lib.Pow.{pow-mono, pow-pos}
-use lib.Seq.{sets, sets-eq, length-take-le, take-take, drop-append-le, drop-drop}
+use lib.Seq.{sets, sets-eq, length-sets, length-take-le, take-take, drop-append-le, drop-drop}
 use Rattle.params.specs.declared.Params.{Params}
-use Rattle.params.specs.Parameters.{Valid}
+use Rattle.params.specs.Parameters.{Valid, valuesPerLeaf, height, leafCount}
 use Rattle.sha256.specs.Sha256.{sha256}
 use Rattle.sha256.proofs.HashLaws.{length-sha256}
-use Rattle.message.specs.Bytes.{part}
+use Rattle.message.specs.Bytes.{joined, part}
 use Rattle.message.specs.Message.{Digest}
-use Rattle.merkle.specs.Merkle.{leaf, rootOf}
+use Rattle.merkle.specs.Merkle.{digests, rootOf}
 use Rattle.fold.specs.Poly.{fold}
 use Rattle.fold.proofs.FoldCheck.{fold-length}
 use Rattle.polynomial.specs.Polynomial.{layerSize, values, isRoom, evaluated, foldedInPlace}
-use Rattle.message.proofs.Tabulate.{tabulate-length, tabulate-sized}
-use Rattle.tree.specs.Tree.{treeSize, leafRow, rows, isGround, grown, grownRoot}
+use Rattle.tree.specs.Tree.{treeSize, isTreeSize, leafRow, leavesPut, rows, treeOver, rootOver}
+use Rattle.tree.proofs.TreeLaws.{size-even}
 use Rattle.tree.proofs.Size.{rows-length}
-use Rattle.writer_model.specs.Work.{polyIn, valuesIn, withValues, withFold, treeStart, treeIn, rootIn}
-use Rattle.writer_model.proofs.Layers.{values-length}
+use Rattle.tree.proofs.Rows.{leaf-row-length, leaf-row-sized, leaf-row-read, leaves-fit, size-yes, tree-yes, root-yes}
+use Rattle.writer_model.specs.Buffers.{polyIn, valuesIn, withValues, withFold, treeStart, treeIn, rootIn}
+use Rattle.writer_model.proofs.Layers.{values-length, layer-leaves}
 
 -- A layer is no larger than the domain; its polynomial has at most as many coefficients as the layer has points, and an even number of them.
 pub layer-fits : (n j : ℕ) → layerSize n j ≤ 2 ^ n
@@ -82,58 +83,89 @@ module _ (p : Params) (j : ℕ) (v : Valid p) (h : j < p .k) where
         ∙ sym (sets-eq (fold β l) numbers 0 (omega arith) ∙ ap (λ k. fold β l ++ drop k numbers) end)
         ∙ ap (λ k. sets numbers 0 (fold β (take k numbers))) f
 
--- Over any values, a tree fills its bytes.
-leaf-rows-length : (d : ℕ) (xs : List ℕ) → length (rows sha256 d (leafRow sha256 d xs)) ≡ treeSize d
-unfolding leafRow leaf
-leaf-rows-length d xs = rows-length sha256 length-sha256 d _ (tabulate-length _ _) (tabulate-sized 32 (2 ^ d) _ (λ i. length-sha256 _))
+-- The leaves over a layer's values, and the tree over them.
+module _ (p : Params) (j : ℕ) (v : Valid p) (h : j < p .k) (values space : List ℕ) (full : length values ≡ layerSize (p .n) j)
+    (whole : length space ≡ treeSize (height p j)) where
+  abbrev row : List Digest
+  row = leafRow sha256 j (valuesPerLeaf p) (height p j) values
 
--- The tree over a layer's values, in its place among the bytes, and its root.
-module _ (p : Params) (j : ℕ) (v : Valid p) (h : j < p .k) (numbers bytes : List ℕ) (long : 2 * 2 ^ p .n ≤ length numbers) (room : 64 * 2 ^ p .n ≤ length bytes)
-    {size height : ℕ} (e : size ≡ layerSize (p .n) j) (f : height ≡ p .n - j - 1) where
-  abbrev xs : List ℕ
-  xs = take (2 * size - size) (drop size numbers)
+  fits : 32 * 2 ^ height p j ≤ length space
+  fits = omega (arith, size-even (height p j), pow-pos (height p j))
 
-  abbrev place : List ℕ
-  place = take (64 * size - 32 - 32 * size) (drop (32 * size) bytes)
+  leaves-in : {s : List ℕ} {per d : ℕ} → per ≡ valuesPerLeaf p → d ≡ height p j → s ≡ leavesPut sha256 j per d values space → s ≡ sets space 0 (joined row)
+  leaves-in {s} {per} {d} a b e =
+      e
+      ∙ ap₂ (λ x y. leavesPut sha256 j x y values space) a b
+      ∙ sym (leaves-fit j (valuesPerLeaf p) (height p j) values space (omega arith) (omega arith) (full ∙ layer-leaves p j (omega arith)) fits refl)
 
-  twice : size ≡ 2 * 2 ^ height
-  unfolding layerSize
-  twice = e ∙ ap (λ k. 2 ^ k) (omega arith) ∙ pow-suc 2 height ∙ omega arith
+  front : {s : List ℕ} → s ≡ sets space 0 (joined row) → (isTreeSize (height p j) (length s) ≡ true) × (digests (leafCount p j) s ≡ row)
+  front {s} e = (
+    size-yes (height p j) (length s) (omega arith) (ap length e ∙ length-sets space 0 (joined row) ∙ whole),
+    ap (digests (leafCount p j)) e ∙ leaf-row-read sha256 length-sha256 j (valuesPerLeaf p) (height p j) values space fits,
+  )
 
-  here : xs ≡ valuesIn p j numbers
-  unfolding valuesIn part
-  here =
-      let once : 2 * size - size ≡ layerSize (p .n) j = omega arith in
-      ap₂ (λ a b. take a (drop b numbers)) once e
+  pub layer-hashed : {s t r : List ℕ} {per d : ℕ} → per ≡ valuesPerLeaf p → d ≡ height p j → s ≡ leavesPut sha256 j per d values space
+      → r ≡ rootOver sha256 d s → t ≡ treeOver sha256 d s → (r ≡ rootOf sha256 (height p j) row) × (t ≡ rows sha256 (height p j) row)
+  layer-hashed {s} {t} {r} {per} {d} a b e f g =
+      let there = front (leaves-in a b e) in (
+        f ∙ ap (λ x. rootOver sha256 x s) b ∙ root-yes (height p j) s (there .0) ∙ ap (rootOf sha256 (height p j)) (there .1),
+        g ∙ ap (λ x. treeOver sha256 x s) b ∙ tree-yes (height p j) s (there .0) ∙ ap (rows sha256 (height p j)) (there .1),
+      )
 
-  values-long : length xs ≡ 2 * 2 ^ height
-  values-long =
-      length-take-le (2 * size - size) (drop size numbers) (omega (arith, length-drop size numbers, layer-fits (p .n) j)) ∙ omega (arith, twice)
+-- A layer's values and its tree, as parts of the lent buffers.
+module _ (p : Params) (j : ℕ) (v : Valid p) (h : j < p .k) {size count : ℕ} (e : size ≡ layerSize (p .n) j) (f : count ≡ leafCount p j) where
+  abbrev bytesTo : ℕ
+  bytesTo = 32 * size + 64 * count - 32 - 32 * size
 
-  place-long : length place ≡ treeSize height
+  inside : size ≡ valuesPerLeaf p * count
+  inside = e ∙ layer-leaves p j (omega arith) ∙ ap (λ k. valuesPerLeaf p * k) (sym f)
+
+  wide : bytesTo ≡ treeSize (height p j)
   unfolding treeSize
-  place-long =
-      length-take-le (64 * size - 32 - 32 * size) (drop (32 * size) bytes) (omega (arith, length-drop (32 * size) bytes, layer-fits (p .n) j)) ∙ omega (arith, twice)
+  wide = omega (arith, pow-pos (height p j))
 
-  ground : isGround height (length xs) (length place) ≡ true
-  unfolding isGround
-  ground = rw (le-leb height 30 (omega arith), eq-eqb _ _ values-long, eq-eqb _ _ place-long)
+  module _ (numbers : List ℕ) (long : 2 * 2 ^ p .n ≤ length numbers) where
+    pub values-here : take (2 * size - size) (drop size numbers) ≡ valuesIn p j numbers
+    unfolding valuesIn part
+    values-here =
+        let once : 2 * size - size ≡ layerSize (p .n) j = omega arith in
+        ap₂ (λ a b. take a (drop b numbers)) once e
 
-  same : height ≡ p .n - suc j
-  same = omega arith
+    pub values-full : length (take (2 * size - size) (drop size numbers)) ≡ layerSize (p .n) j
+    values-full = length-take-le (2 * size - size) (drop size numbers) (omega (arith, length-drop size numbers, layer-fits (p .n) j)) ∙ omega arith
 
-  pub root-left : {r : Digest} → r ≡ grownRoot sha256 height xs place → r ≡ rootIn p sha256 j numbers
-  unfolding grownRoot rootIn
-  root-left g = g ∙ ap (λ t. cond t (rootOf sha256 height (leafRow sha256 height xs)) (replicate 32 0)) ground ∙ ap₂ (λ a b. rootOf sha256 a (leafRow sha256 a b)) same here
+    pub leaves-full : {per : ℕ} → per ≡ valuesPerLeaf p → length (take (2 * size - size) (drop size numbers)) ≡ per * count
+    leaves-full a = values-full ∙ sym e ∙ inside ∙ ap (λ k. k * count) (sym a)
 
-  pub tree-left : {ys : List ℕ} → ys ≡ grown sha256 height xs place
-      → take (32 * size) bytes ++ (ys ++ drop (64 * size - 32 - 32 * size) (drop (32 * size) bytes)) ≡ sets bytes (treeStart p j) (treeIn p sha256 j numbers)
-  unfolding grown treeIn
-  tree-left {ys} g =
-      let made : ys ≡ rows sha256 height (leafRow sha256 height xs) = g ∙ ap (λ t. cond t (rows sha256 height (leafRow sha256 height xs)) place) ground in
-      let full : length ys ≡ treeSize height = ap length made ∙ leaf-rows-length height xs in
-      let gap : 32 * size + length ys ≡ 32 * size + (64 * size - 32 - 32 * size) = ap (λ k. 32 * size + k) (full ∙ sym place-long ∙ length-take-le _ (drop (32 * size) bytes) (omega (arith, length-drop (32 * size) bytes, layer-fits (p .n) j))) in
-      ap (λ z. take (32 * size) bytes ++ (ys ++ z)) (drop-drop (64 * size - 32 - 32 * size) (32 * size) bytes ∙ ap (λ k. drop k bytes) (sym gap))
-      ∙ sym (append-assoc (take (32 * size) bytes) ys _)
-      ∙ sym (sets-eq ys bytes (32 * size) (omega (arith, gap, layer-fits (p .n) j)))
-      ∙ ap₂ (λ a b. sets bytes (32 * a) b) e (made ∙ ap₂ (λ a b. rows sha256 a (leafRow sha256 a b)) same here)
+  module _ (bytes : List ℕ) (room : 64 * 2 ^ p .n ≤ length bytes) where
+    pub tree-ends : 32 * size + 64 * count - 32 ≤ length bytes
+    tree-ends = omega (arith, inside, layer-fits (p .n) j)
+
+    pub tree-here : take bytesTo (drop (32 * size) bytes) ≡ part (treeStart p j) (treeSize (height p j)) bytes
+    unfolding part
+    tree-here = ap₂ (λ a b. take a (drop (32 * b) bytes)) wide e
+
+    pub tree-full : length (take bytesTo (drop (32 * size) bytes)) ≡ treeSize (height p j)
+    tree-full = length-take-le bytesTo (drop (32 * size) bytes) (omega (arith, length-drop (32 * size) bytes, tree-ends)) ∙ wide
+
+    -- What was lent for the tree comes back as the tree, and the rest as it was.
+    pub tree-left : {ys : List ℕ} (numbers : List ℕ) → 2 * 2 ^ p .n ≤ length numbers
+        → ys ≡ rows sha256 (height p j) (leafRow sha256 j (valuesPerLeaf p) (height p j) (take (2 * size - size) (drop size numbers)))
+        → take (32 * size) bytes ++ (ys ++ drop bytesTo (drop (32 * size) bytes)) ≡ sets bytes (treeStart p j) (treeIn p sha256 j numbers)
+    unfolding treeIn
+    tree-left {ys} numbers long made =
+        let full : length ys ≡ bytesTo =
+        ap length made
+        ∙ rows-length sha256 length-sha256 (height p j) _ (leaf-row-length sha256 length-sha256 j (valuesPerLeaf p) (height p j) _)
+        (leaf-row-sized sha256 length-sha256 j (valuesPerLeaf p) (height p j) _)
+        ∙ sym wide in
+        ap (λ z. take (32 * size) bytes ++ (ys ++ z)) (drop-drop bytesTo (32 * size) bytes ∙ ap (λ k. drop (32 * size + k) bytes) (sym full))
+        ∙ sym (append-assoc (take (32 * size) bytes) ys _)
+        ∙ sym (sets-eq ys bytes (32 * size) (omega (arith, full, tree-ends, pow-pos (height p j))))
+        ∙ ap₂ (λ a b. sets bytes (32 * a) b) e
+        (made ∙ ap (λ xs. rows sha256 (height p j) (leafRow sha256 j (valuesPerLeaf p) (height p j) xs)) (values-here numbers long))
+
+    pub root-left : {r : Digest} (numbers : List ℕ) → 2 * 2 ^ p .n ≤ length numbers
+        → r ≡ rootOf sha256 (height p j) (leafRow sha256 j (valuesPerLeaf p) (height p j) (take (2 * size - size) (drop size numbers))) → r ≡ rootIn p sha256 j numbers
+    unfolding rootIn
+    root-left numbers long g = g ∙ ap (λ xs. rootOf sha256 (height p j) (leafRow sha256 j (valuesPerLeaf p) (height p j) xs)) (values-here numbers long)

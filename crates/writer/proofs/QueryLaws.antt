@@ -1,120 +1,104 @@
 -- What an opening, a query and all queries leave in the file. Assumes nothing.
-use Prim.Native.Nat.{ℕ, zero, suc, _+_, _*_, _^_, _-_, _/_, _%_, _≤_, _<_}
+use Prim.Native.Nat.{ℕ, zero, suc, _+_, _*_, _^_, _-_, _%_, _≤_, _<_}
 use mathlib.Core.Bool.{true, cond}
 use mathlib.Core.List.{List, [], _∷_, _++_}
 use mathlib.Core.Path.{_≡_, refl, sym, ap, ap₂, _∙_}
 use native.Mathlib.Nat.{pow-suc, add-zero, zero-add, zero-mul, suc-mul, mul-le-mul-right}
 use native.Mathlib.Numerals.{add-one}
 use native.Mathlib.Omega.{arith}
-use borrow.Author.Tests.{le-leb, lt-ltb, eq-eqb}
-use lib.ListN.{length, take, drop, getD, length-append, length-drop}
+use borrow.Author.Tests.{lt-ltb}
+use lib.ListN.{length, take, drop, getD, length-append}
 use lib.Pow.{pow-mono}
-use lib.Seq.{sets, length-sets, length-take-le}
+use lib.Seq.{sets, length-sets}
 use Rattle.params.specs.declared.Params.{Params}
-use Rattle.params.specs.Parameters.{Valid, valuesPerLeaf, height, leafCount, indexBits, openingLength, queryLength}
+use Rattle.params.specs.Parameters.{Valid, valuesPerLeaf, height, leafCount, leafLength, indexBits, openingLength, queryLength}
 use Rattle.params.proofs.LeafLaws.{leaf-lt}
 use Rattle.params.proofs.ParameterLaws.{query-snoc, query-more}
 use Rattle.sha256.specs.Sha256.{sha256}
 use Rattle.message.specs.Bytes.{le, part, joined, words}
 use Rattle.message.specs.Message.{Digest}
 use Rattle.message.proofs.Bytes.{le-length, joined-snoc}
-use Rattle.message.proofs.MessageLaws.{sets-append, words-length}
+use Rattle.message.proofs.MessageLaws.{sets-append, words-length, words-append, words-one}
 use Rattle.domain.specs.Domain.{half}
 use Rattle.transcript.specs.Transcript.{drawn}
 use Rattle.message.specs.Lists.{tabulate}
 use Rattle.message.proofs.Tabulate.{tabulate-length, tabulate-snoc}
 use Rattle.buffer.specs.Buffer.{put}
 use Rattle.buffer.proofs.BufferLaws.{put-fits}
-use Rattle.buffer.proofs.Placed.{part-length}
+use Rattle.buffer.proofs.Placed.{part-length, sets-behind}
 use Rattle.polynomial.specs.Polynomial.{layerSize}
-use Rattle.tree.specs.Tree.{treeSize, siblingsIn, isPath, pathPut}
-use Rattle.tree.proofs.Rows.{siblings-length}
-use Rattle.writer_model.specs.Work.{leafIn, openingIn, queryIn, queriesIn, treeStart}
-use Rattle.writer.proofs.LayerLaws.{layer-fits}
+use Rattle.tree.specs.Tree.{valuesOf, treeSize, siblingsIn, isPath, pathPut}
+use Rattle.tree.proofs.Rows.{siblings-length, size-yes}
+use Rattle.writer_model.specs.Buffers.{valuesIn, leafIn, openingIn, queryIn, queriesIn, treeStart}
+use Rattle.writer.proofs.LayerLaws.{values-here, tree-here, tree-full}
 
--- Half a layer, as code has it.
-pub half-layer : {size : ℕ} (p : Params) (j : ℕ) → j < p .n → size ≡ layerSize (p .n) j → size / 2 ≡ leafCount p j
-unfolding layerSize
-half-layer {size} p j h e =
-    let twice : size ≡ 2 * 2 ^ (p .n - suc j) = e ∙ ap (λ k. 2 ^ k) (omega arith) ∙ pow-suc 2 (p .n - suc j) ∙ omega arith in
-    omega arith
+-- A loop that puts the values of a leaf, in 4 bytes each: none, one more, and all.
+pub values-none : (l values : List ℕ) (at count m : ℕ) → l ≡ sets l at (words (valuesOf 0 count values m))
+unfolding valuesOf tabulate words joined
+values-none l values at count m = refl
 
-pub half-inside : (p : Params) (j : ℕ) → Valid p → j < p .k → leafCount p j + leafCount p j ≡ layerSize (p .n) j
-unfolding layerSize
-half-inside p j v h = sym (ap (λ k. 2 ^ k) (omega arith) ∙ pow-suc 2 (p .n - suc j) ∙ omega arith)
+pub values-more : {d e : List ℕ} (l values : List ℕ) (at count m from r : ℕ) → from ≡ m + r * count → d ≡ sets l at (words (valuesOf r count values m))
+    → e ≡ put d (at + 4 * r) (le 4 (getD values from 0)) → at + 4 * r + 4 ≤ length d → e ≡ sets l at (words (valuesOf (r + 1) count values m))
+unfolding valuesOf
+values-more {d} {e} l values at count m from r here p q fits =
+    q
+    ∙ put-fits d (at + 4 * r) _ (omega (arith, le-length 4 (getD values from 0)))
+    ∙ ap₂ (λ x y. sets x (at + 4 * r) (le 4 (getD values y 0))) p here
+    ∙ sets-behind l (words (tabulate r value)) (le 4 (value r)) at (at + 4 * r) (omega (arith, words-length (tabulate r value), tabulate-length r value))
+    ∙ ap (sets l at) (sym next)
+  where
+    value : ℕ → ℕ
+    value i = getD values (m + i * count) 0
 
--- The values of a leaf, as code has them, and their bytes.
-leaf-two : {size : ℕ} (p : Params) (j m : ℕ) (numbers : List ℕ) → j < p .n → size ≡ layerSize (p .n) j
-    → getD numbers (size + m) 0 ∷ getD numbers (size + m + size / 2) 0 ∷ [] ≡ leafIn p j m numbers
-unfolding leafIn tabulate
-leaf-two {size} p j m numbers h e =
-    let half = half-layer p j h e in
-    ap₂ (λ a b. getD numbers a 0 ∷ getD numbers b 0 ∷ []) (omega arith) (omega arith)
+    next : words (tabulate (r + 1) value) ≡ words (tabulate r value) ++ le 4 (value r)
+    next =
+        ap (λ k. words (tabulate k value)) (add-one r)
+        ∙ ap words (tabulate-snoc r value)
+        ∙ words-append (tabulate r value) (value r ∷ [])
+        ∙ ap (λ x. words (tabulate r value) ++ x) (words-one (value r))
 
-bytes-two : (a b : ℕ) (z : List ℕ) → le 4 a ++ (le 4 b ++ z) ≡ words (a ∷ b ∷ []) ++ z
-unfolding words joined le
-bytes-two a b z = refl
+pub values-done : {d : List ℕ} {per : ℕ} (l values : List ℕ) (at count m r : ℕ) → r ≡ per → d ≡ sets l at (words (valuesOf r count values m))
+    → d ≡ sets l at (words (valuesOf per count values m))
+values-done l values at count m r e p = p ∙ ap (λ k. sets l at (words (valuesOf k count values m))) e
 
--- Two numbers and a path, put one after the other, are an opening.
-module _ (p : Params) (j m : ℕ) (v : Valid p) (h : j < p .k) (inside : m < leafCount p j) (numbers bytes : List ℕ) (room : 64 * 2 ^ p .n ≤ length bytes)
-    (file : List ℕ) (at : ℕ) (fits : at + openingLength p j ≤ length file)
-    {size up : ℕ} (e : size ≡ layerSize (p .n) j) (f : up ≡ p .n - j - 1) where
+-- The values of a leaf and its path, put one after the other, are an opening.
+module _ (p : Params) (j m : ℕ) (v : Valid p) (h : j < p .k) (inside : m < leafCount p j) (numbers bytes : List ℕ) (long : 2 * 2 ^ p .n ≤ length numbers)
+    (room : 64 * 2 ^ p .n ≤ length bytes) (file : List ℕ) (at : ℕ) (fits : at + openingLength p j ≤ length file)
+    {size count : ℕ} (e : size ≡ layerSize (p .n) j) (f : count ≡ leafCount p j) where
+  abbrev values : List ℕ
+  values = take (2 * size - size) (drop size numbers)
+
   abbrev tree : List ℕ
-  tree = take (64 * size - 32 - 32 * size) (drop (32 * size) bytes)
+  tree = take (32 * size + 64 * count - 32 - 32 * size) (drop (32 * size) bytes)
 
-  abbrev k : ℕ
-  k = 2 ^ up
+  tree-long : length tree ≡ treeSize (height p j)
+  tree-long = tree-full p j v h e f bytes room
 
-  same : up ≡ height p j
-  same = omega arith
-
-  twice : size ≡ 2 * k
-  unfolding layerSize
-  twice = e ∙ ap (λ i. 2 ^ i) (omega arith) ∙ pow-suc 2 up ∙ omega arith
-
-  leaf-inside : m < 2 ^ up
-  leaf-inside = let there : 2 ^ up ≡ 2 ^ (p .n - suc j) = ap (λ i. 2 ^ i) same in omega arith
-
-  tree-long : length tree ≡ treeSize up
-  unfolding treeSize
-  tree-long = length-take-le (64 * size - 32 - 32 * size) (drop (32 * size) bytes) (omega (arith, length-drop (32 * size) bytes, layer-fits (p .n) j)) ∙ omega (arith, twice)
-
-  tree-there : tree ≡ part (treeStart p j) (treeSize (height p j)) bytes
-  unfolding part treeSize
-  tree-there =
-      let wide : 64 * size - 32 - 32 * size ≡ 32 * (2 * 2 ^ height p j - 1) = omega (arith, twice, ap (λ i. 2 ^ i) same) in
-      ap₂ (λ a b. take a (drop (32 * b) bytes)) wide e
-
-  known : isPath up (length tree) m ≡ true
+  known : isPath (height p j) (length tree) m ≡ true
   unfolding isPath
-  known = rw (le-leb up 30 (omega arith), eq-eqb _ _ tree-long, lt-ltb _ _ leaf-inside)
+  known = rw (size-yes (height p j) (length tree) (omega arith) tree-long, lt-ltb _ _ inside)
 
-  pub opening-left : {d₁ d₂ d₃ : List ℕ} → d₁ ≡ put file at (le 4 (getD numbers (size + m) 0)) → d₂ ≡ put d₁ (at + 4) (le 4 (getD numbers (size + m + size / 2) 0))
-      → d₃ ≡ pathPut up tree m d₂ (at + 8) → d₃ ≡ sets file at (openingIn p j m numbers bytes)
-  unfolding pathPut openingIn
-  opening-left {d₁} {d₂} {d₃} a b c =
-      let x : List ℕ = le 4 (getD numbers (size + m) 0) in
-      let y : List ℕ = le 4 (getD numbers (size + m + size / 2) 0) in
-      let z : List ℕ = siblingsIn up tree m in
-      let lx : length x ≡ 4 = le-length 4 _ in
-      let ly : length y ≡ 4 = le-length 4 _ in
-      let lz : length z ≡ 32 * up = siblings-length up tree m (omega (arith, tree-long)) leaf-inside in
-      let first : d₁ ≡ sets file at x = a ∙ put-fits file at x (omega arith) in
-      let long₁ : length d₁ ≡ length file = ap length first ∙ length-sets file at x in
-      let second : d₂ ≡ sets d₁ (at + 4) y = b ∙ put-fits d₁ (at + 4) y (omega arith) in
-      let long₂ : length d₂ ≡ length d₁ = ap length second ∙ length-sets d₁ (at + 4) y in
-      let third : d₃ ≡ sets d₂ (at + 8) z = c ∙ ap (λ t. cond t (put d₂ (at + 8) z) d₂) known ∙ put-fits d₂ (at + 8) z (omega arith) in
-      let four : at + 4 ≡ at + length x = omega arith in
-      let eight : at + 8 ≡ at + 4 + length y = omega arith in
-      third
-      ∙ ap₂ (λ i d. sets d i z) eight second
-      ∙ sets-append d₁ y z (at + 4)
-      ∙ ap₂ (λ i d. sets d i (y ++ z)) four first
-      ∙ sets-append file x (y ++ z) at
-      ∙ ap (λ u. sets file at u)
-      (bytes-two _ _ z
-      ∙ ap (λ vs. words vs ++ z) (leaf-two p j m numbers (omega arith) e)
-      ∙ ap₂ (λ s t. words (leafIn p j m numbers) ++ siblingsIn s t m) same tree-there)
+  leaf-here : {per : ℕ} → per ≡ valuesPerLeaf p → valuesOf per count values m ≡ leafIn p j m numbers
+  unfolding leafIn
+  leaf-here a = ap₂ (λ x y. valuesOf x y values m) a f ∙ ap (λ xs. valuesOf (valuesPerLeaf p) (leafCount p j) xs m) (values-here p j v h e f numbers long)
+
+  pub opening-left : {d₁ d₂ : List ℕ} {per up behind : ℕ} → per ≡ valuesPerLeaf p → up ≡ height p j → behind ≡ leafLength p
+      → d₁ ≡ sets file at (words (valuesOf per count values m)) → d₂ ≡ pathPut up tree m d₁ (at + behind) → d₂ ≡ sets file at (openingIn p j m numbers bytes)
+  unfolding pathPut openingIn leafIn valuesOf
+  opening-left {d₁} {d₂} {per} {up} {behind} a b c q r =
+      let x : List ℕ = words (leafIn p j m numbers) in
+      let z : List ℕ = siblingsIn (height p j) tree m in
+      let lx : length x ≡ leafLength p = words-length (leafIn p j m numbers) ∙ ap (λ k. 4 * k) (tabulate-length (valuesPerLeaf p) _) in
+      let lz : length z ≡ 32 * height p j = siblings-length (height p j) tree m (omega (arith, tree-long)) inside in
+      let first : d₁ ≡ sets file at x = q ∙ ap (λ u. sets file at (words u)) (leaf-here a) in
+      let same : length d₁ ≡ length file = ap length first ∙ length-sets file at x in
+      r
+      ∙ ap₂ (λ k i. pathPut k tree m d₁ (at + i)) b c
+      ∙ ap (λ t. cond t (put d₁ (at + leafLength p) z) d₁) known
+      ∙ put-fits d₁ (at + leafLength p) z (omega arith)
+      ∙ ap (λ d. sets d (at + leafLength p) z) first
+      ∙ sets-behind file x z at (at + leafLength p) (omega arith)
+      ∙ ap (λ t. sets file at (x ++ siblingsIn (height p j) t m)) (tree-here p j v h e f bytes room)
 
 -- A tree stands within the bytes.
 tree-inside : (p : Params) (j : ℕ) → Valid p → j < p .k → treeStart p j + treeSize (height p j) ≤ 64 * 2 ^ p .n
@@ -151,14 +135,14 @@ module _ (p : Params) (numbers bytes : List ℕ) where
 
 module _ (p : Params) (v : Valid p) (numbers bytes : List ℕ) (room : 64 * 2 ^ p .n ≤ length bytes) where
   opening-size : (j m : ℕ) → j < p .k → m < leafCount p j → length (openingIn p j m numbers bytes) ≡ openingLength p j
-  unfolding openingIn leafIn
+  unfolding openingIn leafIn valuesOf
   opening-size j m h inside =
       let t : List ℕ = part (treeStart p j) (treeSize (height p j)) bytes in
       let z : List ℕ = siblingsIn (height p j) t m in
       let long : length t ≡ treeSize (height p j) = part-length (treeStart p j) (treeSize (height p j)) bytes (omega (arith, tree-inside p j v h)) in
       let lz : length z ≡ 32 * height p j = siblings-length (height p j) t m (omega arith) inside in
       length-append (words (leafIn p j m numbers)) z
-      ∙ omega (arith, words-length (leafIn p j m numbers), tabulate-length (valuesPerLeaf p) (λ r. getD numbers (layerSize (p .n) j + (m + r * leafCount p j)) 0))
+      ∙ omega (arith, words-length (leafIn p j m numbers), tabulate-length (valuesPerLeaf p) (λ r. getD (valuesIn p j numbers) (m + r * leafCount p j) 0))
 
   module _ (m : ℕ) where
     openings-size : (j : ℕ) → j ≤ p .k → length (openings p m numbers bytes j) ≡ queryLength p 0 j

@@ -18,8 +18,8 @@ use Rattle.transcript.specs.Transcript.{start, finish}
 use Rattle.buffer.specs.Buffer.{put}
 use Rattle.buffer.proofs.BufferLaws.{put-fits}
 use Rattle.built.specs.Built.{builtFile}
-use Rattle.writer_model.specs.Work.{Work, work, headIn, queriesIn, allLayered, begun, withFinal, ended}
-use Rattle.writer_model.proofs.Layers.{stands}
+use Rattle.writer_model.specs.Buffers.{Buffers, buffers, headIn, queriesIn, allLayered, begun, withFinal, ended}
+use Rattle.writer_model.proofs.Layers.{represents}
 use Rattle.writer_model.proofs.File.{file-built}
 
 -- The final coefficients stand within the numbers.
@@ -71,26 +71,26 @@ openings-left {d₁} {d₂} {count} {at} p s numbers bytes f v h e₀ e e₁ e�
 pub file-left : {n₁ n₂ b₁ f₁ f₂ f₃ f₄ : List ℕ} {s₀ s₁ s₂ : Digest} (p : Params) (context c numbers bytes f : List ℕ) → Valid p → length c ≡ 2 ^ (p .n - p .b)
     → 2 * 2 ^ p .n ≤ length numbers → 64 * 2 ^ p .n ≤ length bytes → length f ≡ fileLength p → n₁ ≡ put numbers 0 c
     → f₁ ≡ headIn p f → s₀ ≡ start sha256 (header p) context
-    → s₁ ≡ allLayered p sha256 (p .k) (work n₁ bytes f₁ s₀) .state → n₂ ≡ allLayered p sha256 (p .k) (work n₁ bytes f₁ s₀) .numbers
-    → b₁ ≡ allLayered p sha256 (p .k) (work n₁ bytes f₁ s₀) .bytes → f₂ ≡ allLayered p sha256 (p .k) (work n₁ bytes f₁ s₀) .file
+    → s₁ ≡ allLayered p sha256 (p .k) (buffers n₁ bytes f₁ s₀) .state → n₂ ≡ allLayered p sha256 (p .k) (buffers n₁ bytes f₁ s₀) .numbers
+    → b₁ ≡ allLayered p sha256 (p .k) (buffers n₁ bytes f₁ s₀) .bytes → f₂ ≡ allLayered p sha256 (p .k) (buffers n₁ bytes f₁ s₀) .file
     → s₂ ≡ finish sha256 s₁ (take (finalCount p) n₂)
     → f₃ ≡ sets (sets f₂ (finalCountOffset p) (le 2 (finalCount p))) (coefficientOffset p 0) (words (take (finalCount p) n₂))
     → f₄ ≡ sets (sets f₃ (queryCountOffset p) (le 2 (p .q))) (queriesOffset p) (queriesIn p sha256 s₂ n₂ b₁)
     → f₄ ≡ builtFile sha256 p context c
 unfolding begun ended withFinal
 file-left {n₁} {n₂} {b₁} {f₁} {f₂} {f₃} {f₄} {s₀} {s₁} {s₂} p context c numbers bytes f v full long room size e₁ e₂ e₃ e₄ e₅ e₆ e₇ e₈ e₉ e₁₀ =
-    done ∙ file-built sha256 length-sha256 sha256-byte p context c f v full size w (stands sha256 length-sha256 p context c numbers bytes f v full long room (p .k) (omega arith))
+    done ∙ file-built sha256 length-sha256 sha256-byte p context c f v full size w (represents sha256 length-sha256 p context c numbers bytes f v full long room (p .k) (omega arith))
   where
     first : n₁ ≡ sets numbers 0 c
     first = e₁ ∙ put-fits numbers 0 c (omega (arith, coefficients-inside p v))
 
-    begin : work n₁ bytes f₁ s₀ ≡ begun p sha256 context c numbers bytes f
+    begin : buffers n₁ bytes f₁ s₀ ≡ begun p sha256 context c numbers bytes f
     begin = rw (first, e₂, e₃)
 
-    w : Work
+    w : Buffers
     w = allLayered p sha256 (p .k) (begun p sha256 context c numbers bytes f)
 
-    on : {A : Type 0} {x : A} (part : Work → A) → x ≡ part (allLayered p sha256 (p .k) (work n₁ bytes f₁ s₀)) → x ≡ part w
+    on : {A : Type 0} {x : A} (part : Buffers → A) → x ≡ part (allLayered p sha256 (p .k) (buffers n₁ bytes f₁ s₀)) → x ≡ part w
     on part e = e ∙ ap (λ u. part (allLayered p sha256 (p .k) u)) begin
 
     done : f₄ ≡ ended p sha256 w

@@ -1,21 +1,23 @@
 -- The writer's tests, and the turns of its small loops. Assumes nothing.
 use Prim.Native.Nat.{ℕ, suc, _+_, _*_, _^_, _-_, _≤_, _<_}
 use mathlib.Core.Bool.{Bool, true, false, _&&_, not, cond, false≢true}
-use mathlib.Core.List.{List, [], _∷_, _++_}
+use mathlib.Core.List.{List}
 use mathlib.Core.Path.{_≡_, refl, sym, ap, _∙_}
 use native.Mathlib.Numerals.{add-one}
 use native.Mathlib.Omega.{arith}
 use borrow.Author.Tests.{lt-ltb, le-ltb, lt-leb, le-leb, ne-eqb, eq-eqb}
 use lib.Dec.{eqb, leb}
-use lib.ListN.{length, take, drop, getD, set, drop-of-length-le}
-use lib.Seq.{sets, drop-cons, take-suc, take-suc-set}
+use lib.ListN.{length, take, drop, getD, drop-of-length-le}
+use lib.Seq.{sets, drop-cons, length-take-le}
 use Rattle.params.specs.declared.Params.{Params}
-use Rattle.params.specs.Parameters.{valid, fileLength}
+use Rattle.params.specs.Parameters.{fileLength}
+use Rattle.params.specs.Admission.{admission}
 use Rattle.message.specs.Bytes.{le, words}
 use Rattle.message.proofs.Bytes.{le-length}
 use Rattle.message.proofs.MessageLaws.{words-more}
 use Rattle.buffer.specs.Buffer.{put}
 use Rattle.buffer.proofs.BufferLaws.{put-fits}
+use Rattle.buffer.proofs.Placed.{take-there}
 use Rattle.field.specs.Modular.{p as modulus}
 use Rattle.writer.specs.Writer.{allBelow, tested}
 
@@ -32,14 +34,11 @@ pub below-end : (l : List ℕ) (i : ℕ) → length l ≤ i → allBelow l ≡ a
 unfolding allBelow
 below-end l i h e = sym (e ∙ ap allBelow (drop-of-length-le l {i = i} h))
 
--- A loop that copies the first numbers into an array.
-pub array-more : (d s : List ℕ) (i : ℕ) → i < length d → i < length s → take i d ≡ take i s → take (i + 1) (set d i (getD s i 0)) ≡ take (i + 1) s
-array-more d s i h k e =
-    ap (λ (n : ℕ). take n (set d i (getD s i 0))) (add-one i)
-    ∙ take-suc-set d i (getD s i 0) h
-    ∙ ap (λ (x : List ℕ). x ++ (getD s i 0 ∷ [])) e
-    ∙ sym (take-suc s i 0 k)
-    ∙ ap (λ (n : ℕ). take n s) (sym (add-one i))
+-- The first numbers, put to the front of an array.
+pub array-front : {r : List ℕ} (d s : List ℕ) (n : ℕ) → n ≤ length d → n ≤ length s → r ≡ put d 0 (take n s) → take n r ≡ take n s
+array-front d s n h k e =
+    let long : length (take n s) ≡ n = length-take-le n s k in
+    ap (take n) (e ∙ put-fits d 0 (take n s) (omega arith)) ∙ take-there d (take n s) n long h
 
 -- A loop that puts the first numbers into a file, each in 4 bytes.
 pub final-more : {d e : List ℕ} (l s : List ℕ) (at i : ℕ) → d ≡ sets l at (words (take i s)) → e ≡ put d (at + 4 * i) (le 4 (getD s i 0)) → i < length s
@@ -57,23 +56,24 @@ upheld true e h = sym e
 upheld false e h = absurd (false≢true (sym h))
 
 -- The tests in their order, as one function of what they find.
-unfoldable pub tests : Bool → Bool → Bool → Bool → Bool → Bool → ℕ
-tests valid counted below numbers bytes output = cond valid (cond counted (cond below (cond (numbers && bytes) (cond output 0 32) 31) 22) 30) 10
+unfoldable pub tests : ℕ → Bool → Bool → Bool → Bool → Bool → ℕ
+tests admitted counted below numbers bytes output =
+    cond (eqb admitted 0) (cond counted (cond below (cond (numbers && bytes) (cond output 0 32) 31) 22) 30) admitted
 
 module _ (p : Params) (f : List ℕ) (numbers bytes output : ℕ) where
   abbrev number : ℕ
   number = tested p f numbers bytes output
 
   pub in-order : number
-      ≡ tests (valid p) (eqb (length f) (2 ^ (p .n - p .b))) (allBelow f) (leb (2 * 2 ^ p .n) numbers) (leb (64 * 2 ^ p .n) bytes) (leb (fileLength p) output)
+      ≡ tests (admission p) (eqb (length f) (2 ^ (p .n - p .b))) (allBelow f) (leb (2 * 2 ^ p .n) numbers) (leb (64 * 2 ^ p .n) bytes) (leb (fileLength p) output)
   unfolding tested tests
   in-order = refl
 
-  pub not-valid : valid p ≡ false → 10 ≡ number
+  pub not-admitted : {n : ℕ} → n ≡ admission p → ¬ (n ≡ 0) → n ≡ number
   unfolding tests
-  not-valid e = rw (in-order, e)
+  not-admitted e r = rw (in-order, e, ne-eqb (admission p) 0 (λ m. r (e ∙ m)))
 
-  module _ (v : valid p ≡ true) where
+  module _ (v : admission p ≡ 0) where
     pub wrong-count : (length f ≡ 2 ^ (p .n - p .b) → ⊥) → 30 ≡ number
     unfolding tests
     wrong-count h = rw (in-order, v, ne-eqb _ _ h)

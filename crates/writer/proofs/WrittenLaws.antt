@@ -1,6 +1,6 @@
 -- What the tests say when none fails, and what the writer then answers and leaves. Assumes nothing.
 use Prim.Native.Nat.{ℕ, _*_, _^_, _-_, _≤_, _<_}
-use mathlib.Core.Bool.{Bool, true, false, cond}
+use mathlib.Core.Bool.{Bool, true, false, cond, _&&_}
 use mathlib.Core.List.{List, _++_}
 use mathlib.Core.Path.{_≡_, refl, sym, ap, ap₂, _∙_}
 use native.Mathlib.Omega.{arith}
@@ -10,8 +10,10 @@ use lib.ListN.{length, drop, replicate}
 use Rattle.answer.specs.Table.{answered}
 use Rattle.sha256.specs.Sha256.{sha256}
 use Rattle.params.specs.declared.Params.{Params}
-use Rattle.params.specs.Parameters.{Valid, valid, fileLength}
-use Rattle.params.proofs.ParameterLaws.{valid-facts, offset-small, product-small}
+use Rattle.params.specs.Parameters.{Valid, fileLength}
+use Rattle.params.specs.Admission.{admission}
+use Rattle.params.proofs.ParameterLaws.{offset-small, product-small}
+use Rattle.params.proofs.AdmissionLaws.{admitted-valid}
 use Rattle.buffer.specs.Buffer.{cleared}
 use Rattle.built.specs.Built.{builtFile}
 use Rattle.writer.proofs.WriterLaws.{tests, in-order}
@@ -19,6 +21,7 @@ use Rattle.writer.specs.Writer.{Written, allBelow, tested, refused, succ
 
 -- No test fails.
 pub record Passed (p : Params) (f : List ℕ) (numbers bytes output : ℕ) : Type 0 where
+  pub admitted : admission p ≡ 0
   pub parameters : Valid p
   pub count : length f ≡ 2 ^ (p .n - p .b)
   pub below : allBelow f ≡ true
@@ -29,13 +32,13 @@ pub record Passed (p : Params) (f : List ℕ) (numbers bytes output : ℕ) : Typ
 pub passed : (p : Params) (f : List ℕ) (numbers bytes output : ℕ) → tested p f numbers bytes output ≡ 0 → Passed p f numbers bytes output
 unfolding tests
 passed p f numbers bytes output e =
-    go (valid p) refl (eqb (length f) (2 ^ (p .n - p .b))) refl (allBelow f) refl (leb (2 * 2 ^ p .n) numbers) refl (leb (64 * 2 ^ p .n) bytes) refl
+    go (eqb (admission p) 0) refl (eqb (length f) (2 ^ (p .n - p .b))) refl (allBelow f) refl (leb (2 * 2 ^ p .n) numbers) refl (leb (64 * 2 ^ p .n) bytes) refl
     (leb (fileLength p) output) refl (sym (in-order p f numbers bytes output) ∙ e)
   where
-    go : (t₁ : Bool) → valid p ≡ t₁ → (t₂ : Bool) → eqb (length f) (2 ^ (p .n - p .b)) ≡ t₂ → (t₃ : Bool) → allBelow f ≡ t₃
+    go : (t₁ : Bool) → eqb (admission p) 0 ≡ t₁ → (t₂ : Bool) → eqb (length f) (2 ^ (p .n - p .b)) ≡ t₂ → (t₃ : Bool) → allBelow f ≡ t₃
         → (t₄ : Bool) → leb (2 * 2 ^ p .n) numbers ≡ t₄ → (t₅ : Bool) → leb (64 * 2 ^ p .n) bytes ≡ t₅ → (t₆ : Bool) → leb (fileLength p) output ≡ t₆
-        → tests t₁ t₂ t₃ t₄ t₅ t₆ ≡ 0 → Passed p f numbers bytes output
-    go false e₁ t₂ e₂ t₃ e₃ t₄ e₄ t₅ e₅ t₆ e₆ e = absurd (omega arith)
+        → cond t₁ (cond t₂ (cond t₃ (cond (t₄ && t₅) (cond t₆ 0 32) 31) 22) 30) (admission p) ≡ 0 → Passed p f numbers bytes output
+    go false e₁ t₂ e₂ t₃ e₃ t₄ e₄ t₅ e₅ t₆ e₆ e = absurd (eqb-false _ _ e₁ e)
     go true e₁ false e₂ t₃ e₃ t₄ e₄ t₅ e₅ t₆ e₆ e = absurd (omega arith)
     go true e₁ true e₂ false e₃ t₄ e₄ t₅ e₅ t₆ e₆ e = absurd (omega arith)
     go true e₁ true e₂ true e₃ false e₄ t₅ e₅ t₆ e₆ e = absurd (omega arith)
@@ -43,7 +46,8 @@ passed p f numbers bytes output e =
     go true e₁ true e₂ true e₃ true e₄ true e₅ false e₆ e = absurd (omega arith)
     go true e₁ true e₂ true e₃ true e₄ true e₅ true e₆ e =
         record {
-          parameters = valid-facts p e₁;
+          admitted = eqb-true _ _ e₁;
+          parameters = admitted-valid p (eqb-true _ _ e₁);
           count = eqb-true _ _ e₂;
           below = e₃;
           numbers-fit = leb-true _ _ e₄;

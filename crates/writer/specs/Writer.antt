@@ -5,10 +5,11 @@ use mathlib.Core.List.{List, [], _∷_, _++_}
 use lib.Dec.{eqb, leb, ltb}
 use lib.ListN.{length, drop}
 use Rattle.answer.specs.declared.Answer.{Answer}
-use Rattle.answer.specs.Table.{answered, open-so-far, parameters-not-valid, not-below-modulus, wrong-coefficient-count, scratch-too-short, output-too-short}
+use Rattle.answer.specs.Table.{answered, open-so-far, not-below-modulus, wrong-coefficient-count, scratch-too-short, output-too-short}
 use Rattle.field.specs.Modular.{p as modulus}
 use Rattle.params.specs.declared.Params.{Params}
-use Rattle.params.specs.Parameters.{valid, fileLength}
+use Rattle.params.specs.Parameters.{fileLength}
+use Rattle.params.specs.Admission.{admission, admits}
 use Rattle.message.specs.Message.{Digest}
 use Rattle.buffer.specs.Buffer.{cleared}
 use Rattle.built.specs.Built.{builtFile}
@@ -21,7 +22,7 @@ allBelow (c ∷ cs) = ltb c modulus && allBelow cs
 -- The tests, in their order: of the coefficients f, and of the lengths of the lent numbers, the lent bytes and the output.
 unfoldable pub tested : Params → List ℕ → ℕ → ℕ → ℕ → ℕ
 tested p f numbers bytes output =
-    cond (valid p)
+    cond (admits p)
     (cond (eqb (length f) (2 ^ (p .n - p .b)))
     (cond (allBelow f)
     (cond (leb (2 * 2 ^ p .n) numbers && leb (64 * 2 ^ p .n) bytes)
@@ -31,7 +32,7 @@ tested p f numbers bytes output =
     scratch-too-short)
     not-below-modulus)
     wrong-coefficient-count)
-    parameters-not-valid
+    (admission p)
 
 -- What a call answers, and what it leaves in the output and in the scratch.
 pub record Written : Type 0 where

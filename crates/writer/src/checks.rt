@@ -21,8 +21,9 @@ fn all_below(coefficients: &[u32]) -> bool
 pub fn tested(p: Params, coefficients: &[u32], numbers: usize, bytes: usize, output: usize) -> u8
     ensures { λ r. ⌜ r ≡ spec.tested p (now (coefficients .entry)) numbers bytes output ⌝ }
 {
-    if !params::is_valid(p) {
-        return answer::PARAMETERS_NOT_VALID;
+    let admission = params::admission(p);
+    if admission != answer::OPEN {
+        return admission;
     }
     if coefficients.len() != crate::sizes::power(p.n - p.b) {
         return answer::WRONG_COEFFICIENT_COUNT;

@@ -8,7 +8,7 @@ ghost use Rattle.message.specs.Bytes.{le, words};
 ghost use Rattle.params.specs.Parameters.{Valid, finalCount, rootOffset, finalCountOffset, coefficientOffset, queryCountOffset, queriesOffset, fileLength};
 ghost use Rattle.transcript.specs.Transcript as transcript;
 ghost use Rattle.built.specs.Built.{builtFile};
-ghost use Rattle.writer_model.specs.Work as spec;
+ghost use Rattle.writer_model.specs.Buffers as spec;
 use params::Params;
 use transcript::Transcript;
 
@@ -18,11 +18,7 @@ fn final_of(numbers: &[u32], count: usize) -> [u32; 64]
     ensures { λ r. ⌜ take count r ≡ take count (now (numbers .entry)) ⌝ }
 {
     let mut r = [0u32; 64];
-    let mut i = 0;
-    while i < count {
-        r[i] = numbers[i];
-        i += 1;
-    }
+    buffer::put_numbers(&mut r, &numbers[..count]);
     r
 }
 

@@ -7,18 +7,20 @@ use lib.ListN.{length, getD}
 use lib.Seq.{sets}
 use Rattle.params.specs.declared.Params.{Params}
 use Rattle.params.specs.Parameters.{Valid, headerSize, header, finalCount, rootCountOffset, rootOffset, finalCountOffset, coefficientOffset, queryCountOffset, queriesOffset, fileLength}
+use Rattle.params.specs.Admission.{termsOf}
+use Rattle.params.proofs.AdmissionLaws.{admitted}
 use Rattle.message.specs.Bytes.{le, joined, words}
 use Rattle.message.specs.Message.{Digest}
 use Rattle.message.proofs.Bytes.{le-length, sized, joined-length}
 use Rattle.message.proofs.MessageLaws.{words-length}
 use Rattle.buffer.proofs.Placed.{sets-behind, sets-all}
 use Rattle.fri.specs.Encoding.{Proof, queryBytes, encode, HasLayout}
-use Rattle.fri.proofs.Exactly.{accepted-place, accepted-verdict}
+use Rattle.fri.proofs.Exactly.{accepted-length}
 use Rattle.built.specs.Built.{build, builtFile}
 use Rattle.built.proofs.Built.{built-holds}
 use Rattle.built.proofs.BuiltLayout.{built-layout}
-use Rattle.writer_model.specs.Work.{Work, headIn, withFinal, ended}
-use Rattle.writer_model.proofs.Stands.{Stands}
+use Rattle.writer_model.specs.Buffers.{Buffers, headIn, withFinal, ended}
+use Rattle.writer_model.proofs.Represents.{Represents}
 use Rattle.writer_model.proofs.Opened.{final-built, queries-built}
 
 -- Eight parts one after the other: the file's count, header, roots, final coefficients and openings, each list after its count.
@@ -46,8 +48,7 @@ module _
   -- The built file has the length L, since it is accepted.
   pub built-length : Valid p → length f ≤ 2 ^ (p .n - p .b) → length (builtFile hash p context f) ≡ fileLength p
   built-length v short =
-      accepted-place hash p context (builtFile hash p context f) v (fileLength p)
-      (accepted-verdict hash p context (builtFile hash p context f) v (built-holds hash size below p context f v short)) .1
+      accepted-length hash (termsOf p context) (builtFile hash p context f) (admitted p v) (built-holds hash size below p context f v short)
 
   abbrev proof : Proof
   proof = build hash p context f
@@ -61,13 +62,13 @@ module _
   final-length layout = words-length _ ∙ ap (λ n. 4 * n) (layout .final-count)
 
   -- The file from the start on: all parts, and no byte more.
-  pub file-built : (file : List ℕ) → Valid p → length f ≡ 2 ^ (p .n - p .b) → length file ≡ fileLength p → (w : Work)
-      → Stands hash p context f (headIn p file) (p .k) w
+  pub file-built : (file : List ℕ) → Valid p → length f ≡ 2 ^ (p .n - p .b) → length file ≡ fileLength p → (w : Buffers)
+      → Represents hash p context f (headIn p file) (p .k) w
       → ended p hash w ≡ builtFile hash p context f
   unfolding ended withFinal build builtFile encode
-  file-built file v full long w stands =
+  file-built file v full long w represents =
       let layout = built-layout hash size below p context f v (omega arith) in
-      rw (queries-built hash size p context f _ v w stands, final-built hash size p context f _ v w stands, stands .roots-in)
+      rw (queries-built hash size p context f _ v w represents, final-built hash size p context f _ v w represents, represents .roots-in)
       (parts-joined p file (le 2 headerSize) (header p) (le 2 (p .k)) (joined (proof .roots)) (le 2 (finalCount p)) (words (proof .final)) (le 2 (p .q))
       (joined (map queryBytes (proof .queries)))
       (le-length 2 headerSize) refl (le-length 2 (p .k)) (roots-length layout) (le-length 2 (finalCount p)) (final-length layout) (le-length 2 (p .q))

@@ -1,9 +1,9 @@
 -- The writer's buffers after each layer hold what the built proof has there, for any hash of 32 bytes. Assumes nothing.
 use Prim.Native.Nat.{ℕ, zero, suc, _+_, _*_, _^_, _-_, _<_, _≤_}
 use mathlib.Core.Bool.{Bool, true, false}
-use mathlib.Core.List.{List, [], _∷_, _++_, append-nil}
+use mathlib.Core.List.{List, [], _++_, append-nil}
 use mathlib.Core.Path.{_≡_, refl, sym, ap, ap₂, _∙_, subst}
-use native.Mathlib.Nat.{pow-succ'}
+use native.Mathlib.Nat.{pow-succ', suc-mul, mul-le-mul-right}
 use native.Mathlib.Omega.{arith}
 use borrow.Author.Tests.{ltb-true, ltb-false}
 use lib.Dec.{ltb}
@@ -11,12 +11,12 @@ use lib.ListN.{length, getD, replicate}
 use lib.Pow.{pow-mono}
 use lib.Seq.{sets, length-sets}
 use Rattle.params.specs.declared.Params.{Params}
-use Rattle.params.specs.Parameters.{Valid, height, leafCount, rootOffset}
+use Rattle.params.specs.Parameters.{Valid, depth, valuesPerLeaf, height, leafCount, rootOffset}
 use Rattle.message.specs.Bytes.{joined, part}
 use Rattle.message.specs.Message.{Digest}
 use Rattle.message.proofs.Bytes.{Sized}
-use Rattle.merkle.specs.Merkle.{leaf, rootOf}
-use Rattle.merkle.proofs.Opens.{root-all}
+use Rattle.merkle.specs.Merkle.{leafDigest, rootOf}
+use Rattle.merkle.proofs.Opens.{leaf-all, root-all}
 use Rattle.transcript.specs.Transcript.{absorb, challenge}
 use Rattle.fold.specs.Poly.{fold}
 use Rattle.fold.proofs.FoldCheck.{fold-length}
@@ -24,22 +24,31 @@ use Rattle.message.specs.Lists.{tabulate}
 use Rattle.message.proofs.Tabulate.{tabulate-length, tabulate-at, tabulate-same, tabulate-sized}
 use Rattle.buffer.proofs.Placed.{part-after, part-there, take-before, take-there}
 use Rattle.polynomial.specs.Polynomial.{layerSize, values}
-use Rattle.tree.specs.Tree.{leafRow, rows, treeSize}
+use Rattle.tree.specs.Tree.{valuesOf, leafRow, rows, treeSize}
 use Rattle.tree.proofs.TreeLaws.{blocks-more}
 use Rattle.tree.proofs.Size.{rows-length}
-use Rattle.built.specs.Built.{Layer, padded, leafOf, leaves, commit, nextLayer, layerAt, builtRoot}
-use Rattle.built.proofs.Layers.{leaves-length, leaf-two, layer-length}
-use Rattle.writer_model.specs.Work.{Work, polyIn, valuesIn, withValues, withFold, treeStart, treeIn, rootIn, committed, layered, allLayered, begun}
-use Rattle.writer_model.proofs.Stands.{Stands}
+use Rattle.built.specs.Built.{Layer, padded, leafValues, leafOf, leaves, commit, nextLayer, layerAt, builtRoot}
+use Rattle.built.proofs.Layers.{leaves-length, layer-length}
+use Rattle.writer_model.specs.Buffers.{Buffers, polyIn, valuesIn, withValues, withFold, treeStart, treeIn, rootIn, committed, layered, allLayered, begun}
+use Rattle.writer_model.proofs.Represents.{Represents}
 
 -- A layer is twice as large as the next one, and at least twice as large as each later one.
-pub halves : (n j : ℕ) → j < n → 2 ^ (n - j) ≡ 2 * 2 ^ (n - suc j)
+halves : (n j : ℕ) → j < n → 2 ^ (n - j) ≡ 2 * 2 ^ (n - suc j)
 halves n j h = ap (λ e. 2 ^ e) (omega arith) ∙ pow-succ' 2 (n - suc j)
 
 layers-apart : (n i j : ℕ) → i < j → j ≤ n → 2 * 2 ^ (n - j) ≤ 2 ^ (n - i)
 layers-apart n i j h l =
     let later : 2 ^ (n - j) ≤ 2 ^ (n - suc i) = pow-mono (omega arith) in
     omega (arith, halves n i (omega arith))
+
+-- A layer has as many points as its leaves have values, and value r of leaf m is one of them.
+pub layer-leaves : (p : Params) (j : ℕ) → j < p .n → layerSize (p .n) (depth p j) ≡ valuesPerLeaf p * leafCount p j
+unfolding layerSize
+layer-leaves p j h = halves (p .n) j h
+
+pub index-lt : (p : Params) (j m r : ℕ) → j < p .n → m < leafCount p j → r < valuesPerLeaf p → m + r * leafCount p j < layerSize (p .n) (depth p j)
+index-lt p j m r h l k =
+    omega (arith, layer-leaves p j h, mul-le-mul-right {m = suc r} {n = valuesPerLeaf p} (leafCount p j) k, suc-mul r (leafCount p j))
 
 -- What holds below j and at j holds below j + 1.
 one-more : (P : ℕ → Type 0) (j : ℕ) → ((i : ℕ) → i < j → P i) → P j → (i : ℕ) → i < suc j → P i
@@ -51,17 +60,17 @@ one-more P j below last i h = go (ltb i j) refl
 
 -- The steps keep the lengths of the buffers.
 module _ (p : Params) (hash : List ℕ → Digest) where
-  pub numbers-length : (j : ℕ) (w : Work) → length (allLayered p hash j w .numbers) ≡ length (w .numbers)
+  pub numbers-length : (j : ℕ) (w : Buffers) → length (allLayered p hash j w .numbers) ≡ length (w .numbers)
   unfolding allLayered layered committed withValues withFold
   numbers-length zero w = refl
   numbers-length (suc j) w = simp length-sets (numbers-length j w)
 
-  pub bytes-length : (j : ℕ) (w : Work) → length (allLayered p hash j w .bytes) ≡ length (w .bytes)
+  pub bytes-length : (j : ℕ) (w : Buffers) → length (allLayered p hash j w .bytes) ≡ length (w .bytes)
   unfolding allLayered layered committed
   bytes-length zero w = refl
   bytes-length (suc j) w = simp length-sets (bytes-length j w)
 
-  pub file-length : (j : ℕ) (w : Work) → length (allLayered p hash j w .file) ≡ length (w .file)
+  pub file-length : (j : ℕ) (w : Buffers) → length (allLayered p hash j w .file) ≡ length (w .file)
   unfolding allLayered layered committed
   file-length zero w = refl
   file-length (suc j) w = simp length-sets (file-length j w)
@@ -76,10 +85,6 @@ module _ (p : Params) (hash : List ℕ → Digest) where
     unfolding begun
     bytes-begun = refl
 
-    pub file-begun : length (begun p hash context f numbers bytes file .file) ≡ length file
-    unfolding begun
-    file-begun = simp length-sets
-
 pub values-length : (n j : ℕ) (g : List ℕ) → length (values n j g) ≡ layerSize n j
 unfolding values
 values-length n j g = tabulate-length _ _
@@ -93,29 +98,27 @@ padded-full size f e =
 
 module _ (hash : List ℕ → Digest) (p : Params) (g : List ℕ) (j : ℕ) where
   -- The leaves over a layer's values are the ones of its polynomial.
-  pub leaf-row : j < p .n → leafRow hash (height p j) (values (p .n) j g) ≡ leaves hash p g j
-  unfolding leafRow leaves leafOf values layerSize
+  pub leaf-row : j < p .n → leafRow hash j (valuesPerLeaf p) (height p j) (values (p .n) j g) ≡ leaves hash p g j
+  unfolding leafRow valuesOf leaves leafOf leafValues values
   leaf-row h =
-      let twice : 2 ^ (p .n - j) ≡ 2 * 2 ^ (p .n - suc j) = halves (p .n) j h in
-      tabulate-same (2 ^ (p .n - suc j)) _ _
-      (λ m l. ap₂ (λ a b. leaf hash (a ∷ b ∷ [])) (tabulate-at (2 ^ (p .n - j)) _ m 0 (omega arith))
-      (tabulate-at (2 ^ (p .n - j)) _ (m + 2 ^ (p .n - suc j)) 0 (omega arith))
-      ∙ ap (leaf hash) (sym (leaf-two p g j m)))
+      tabulate-same (leafCount p j) _ _
+      (λ m l. ap (leafDigest hash j)
+      (tabulate-same (valuesPerLeaf p) _ _ (λ r k. tabulate-at (layerSize (p .n) j) _ (m + r * leafCount p j) 0 (index-lt p j m r h l k))))
 
   -- Leaves and roots are digests, so the tree has its size.
   module _ (size : (xs : List ℕ) → length (hash xs) ≡ 32) where
     leaves-sized : Sized 32 (leaves hash p g j)
-    unfolding leaves leafOf leaf
-    leaves-sized = tabulate-sized 32 _ _ (λ m. size _)
+    unfolding leaves leafOf
+    leaves-sized = tabulate-sized 32 _ _ (λ m. leaf-all hash (λ x. length x ≡ 32) size j _)
 
     pub tree-length : length (rows hash (height p j) (leaves hash p g j)) ≡ treeSize (height p j)
     tree-length = rows-length hash size (height p j) (leaves hash p g j) (leaves-length hash p g j) leaves-sized
 
     pub leaf-length : (m : ℕ) → m < length (leaves hash p g j) → length (getD (leaves hash p g j) m []) ≡ 32
-    unfolding leaves leafOf leaf
+    unfolding leaves leafOf
     leaf-length m h =
         ap length (tabulate-at (leafCount p j) (leafOf hash p g j) m [] (omega (arith, tabulate-length (leafCount p j) (leafOf hash p g j))))
-        ∙ size _
+        ∙ leaf-all hash (λ x. length x ≡ 32) size j _
 
     pub commit-length : length (commit hash p g j) ≡ 32
     unfolding commit
@@ -147,13 +150,13 @@ module _ (p : Params) (v : Valid p) (j : ℕ) (h : j < p .k) (g ns : List ℕ) (
   new-tree : (hash : List ℕ → Digest) → treeIn p hash j next ≡ rows hash (height p j) (leaves hash p g j)
   unfolding treeIn
   new-tree hash =
-      ap (λ vs. rows hash (height p j) (leafRow hash (height p j) vs)) new-values
+      ap (λ vs. rows hash (height p j) (leafRow hash j (valuesPerLeaf p) (height p j) vs)) new-values
       ∙ ap (rows hash (height p j)) (leaf-row hash p g j (omega arith))
 
   new-root : (hash : List ℕ → Digest) → rootIn p hash j next ≡ commit hash p g j
   unfolding rootIn commit
   new-root hash =
-      ap (λ vs. rootOf hash (height p j) (leafRow hash (height p j) vs)) new-values
+      ap (λ vs. rootOf hash (height p j) (leafRow hash j (valuesPerLeaf p) (height p j) vs)) new-values
       ∙ ap (rootOf hash (height p j)) (leaf-row hash p g j (omega arith))
 
   -- Its fold puts the next polynomial, and leaves all values.
@@ -205,11 +208,11 @@ module _ (hash : List ℕ → Digest) (size : (xs : List ℕ) → length (hash x
   root-more j = blocks-more file (rootOffset 0) j (builtRoot hash p context f) (λ i. commit-length hash p (layer i .poly) i size)
 
   -- One layer done on buffers that stand.
-  pub layer-stands : Valid p → length f ≤ 2 ^ (p .n - p .b) → (j : ℕ) (w : Work) → j < p .k
+  pub layer-represents : Valid p → length f ≤ 2 ^ (p .n - p .b) → (j : ℕ) (w : Buffers) → j < p .k
       → 2 * 2 ^ p .n ≤ length (w .numbers) → 64 * 2 ^ p .n ≤ length (w .bytes)
-      → Stands hash p context f file j w → Stands hash p context f file (suc j) (layered p hash j w)
+      → Represents hash p context f file j w → Represents hash p context f file (suc j) (layered p hash j w)
   unfolding layered committed layerAt nextLayer builtRoot
-  layer-stands v short j w h long room s =
+  layer-represents v short j w h long room s =
       record {
         poly = next-poly p v j h g (w .numbers) (s .poly) long β full ∙ ap (λ t. fold (challenge hash t) g) state;
         state = state;
@@ -259,13 +262,13 @@ module _
     (size : (xs : List ℕ) → length (hash xs) ≡ 32)
     (p : Params)
     (context f numbers bytes file : List ℕ) where
-  abbrev first : Work
+  abbrev first : Buffers
   first = begun p hash context f numbers bytes file
 
   -- At the start the polynomial is in front, and nothing else.
-  begun-stands : Valid p → length f ≡ 2 ^ (p .n - p .b) → 2 * 2 ^ p .n ≤ length numbers → Stands hash p context f (first .file) 0 first
+  begun-represents : Valid p → length f ≡ 2 ^ (p .n - p .b) → 2 * 2 ^ p .n ≤ length numbers → Represents hash p context f (first .file) 0 first
   unfolding begun polyIn layerAt tabulate joined
-  begun-stands v full long =
+  begun-represents v full long =
       let fits : 2 ^ (p .n - p .b - 0) ≤ 2 ^ p .n = pow-mono (omega arith) in
       record {
         poly = take-there numbers f (2 ^ (p .n - p .b - 0)) (full ∙ ap (λ e. 2 ^ e) (omega arith)) (omega arith) ∙ sym (padded-full _ f full);
@@ -276,12 +279,12 @@ module _
       }
 
   -- After the first j layers the buffers hold those layers, and the next polynomial.
-  pub stands : Valid p → length f ≡ 2 ^ (p .n - p .b) → 2 * 2 ^ p .n ≤ length numbers → 64 * 2 ^ p .n ≤ length bytes
-      → (j : ℕ) → j ≤ p .k → Stands hash p context f (first .file) j (allLayered p hash j first)
+  pub represents : Valid p → length f ≡ 2 ^ (p .n - p .b) → 2 * 2 ^ p .n ≤ length numbers → 64 * 2 ^ p .n ≤ length bytes
+      → (j : ℕ) → j ≤ p .k → Represents hash p context f (first .file) j (allLayered p hash j first)
   unfolding allLayered
-  stands v full long room zero h = begun-stands v full long
-  stands v full long room (suc j) h =
-      layer-stands hash size p context f (first .file) v (omega arith) j (allLayered p hash j first) (omega arith)
+  represents v full long room zero h = begun-represents v full long
+  represents v full long room (suc j) h =
+      layer-represents hash size p context f (first .file) v (omega arith) j (allLayered p hash j first) (omega arith)
       (omega (arith, numbers-length p hash j first, numbers-begun p hash context f numbers bytes file))
       (omega (arith, bytes-length p hash j first, bytes-begun p hash context f numbers bytes file))
-      (stands v full long room j (omega arith))
+      (represents v full long room j (omega arith))

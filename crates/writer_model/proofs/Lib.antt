@@ -1,5 +1,5 @@
 -- The writer's buffers come to hold the built proof.
-pub mod Stands
+pub mod Represents
 pub mod Layers
 pub mod Opened
 pub mod File

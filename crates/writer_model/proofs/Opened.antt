@@ -2,7 +2,6 @@
 use Prim.Native.Nat.{ℕ, zero, suc, _+_, _*_, _%_, _<_}
 use mathlib.Core.List.{List, _∷_, _++_, map}
 use mathlib.Core.Path.{_≡_, refl, sym, ap, ap₂, _∙_}
-use native.Mathlib.Nat.{suc-mul, mul-le-mul-right}
 use native.Mathlib.Omega.{arith}
 use lib.ListN.{length, getD}
 use Rattle.params.specs.declared.Params.{Params}
@@ -16,15 +15,14 @@ use Rattle.fold.specs.Poly.{eval}
 use Rattle.fri.specs.Encoding.{openingBytes, queryBytes}
 use Rattle.message.specs.Lists.{tabulate}
 use Rattle.message.proofs.Tabulate.{tabulate-at, tabulate-same}
-use Rattle.buffer.proofs.Placed.{part-number}
 use Rattle.polynomial.specs.Polynomial.{layerSize, values}
-use Rattle.tree.specs.Tree.{siblingsIn, treeSize}
+use Rattle.tree.specs.Tree.{valuesOf, siblingsIn, treeSize}
 use Rattle.tree.proofs.Path.{siblings-path}
 use Rattle.built.specs.Built.{leafValues, leaves, layerAt, builtLeaf, openingOf, build}
 use Rattle.built.proofs.Layers.{leaves-length}
-use Rattle.writer_model.specs.Work.{Work, polyIn, valuesIn, treeStart, leafIn, openingIn, queryIn, queriesIn, finalIn}
-use Rattle.writer_model.proofs.Stands.{Stands}
-use Rattle.writer_model.proofs.Layers.{halves, leaf-length}
+use Rattle.writer_model.specs.Buffers.{Buffers, polyIn, valuesIn, treeStart, leafIn, openingIn, queryIn, queriesIn, finalIn}
+use Rattle.writer_model.proofs.Represents.{Represents}
+use Rattle.writer_model.proofs.Layers.{index-lt, leaf-length}
 
 -- A function of each value.
 map-tabulate : {A B : Type 0} (f : A → B) (n : ℕ) (g : ℕ → A) → map f (tabulate n g) ≡ tabulate n (λ i. f (g i))
@@ -32,39 +30,27 @@ unfolding tabulate
 map-tabulate f zero g = refl
 map-tabulate f (suc n) g = ap (λ xs. f (g 0) ∷ xs) (map-tabulate f n (λ i. g (suc i)))
 
--- A layer has as many points as its leaves have values, and value r of leaf m is one of them.
-layer-leaves : (p : Params) (j : ℕ) → j < p .n → layerSize (p .n) (depth p j) ≡ valuesPerLeaf p * leafCount p j
-unfolding layerSize
-layer-leaves p j h = halves (p .n) j h
-
-index-lt : (p : Params) (j m r : ℕ) → j < p .n → m < leafCount p j → r < valuesPerLeaf p → m + r * leafCount p j < layerSize (p .n) (depth p j)
-index-lt p j m r h l k =
-    omega (arith, layer-leaves p j h, mul-le-mul-right {m = suc r} {n = valuesPerLeaf p} (leafCount p j) k, suc-mul r (leafCount p j))
-
 module _ (hash : List ℕ → Digest) (size : (xs : List ℕ) → length (hash xs) ≡ 32) (p : Params) (context f file : List ℕ) (v : Valid p)
-    (w : Work) (stands : Stands hash p context f file (p .k) w) where
+    (w : Buffers) (represents : Represents hash p context f file (p .k) w) where
   abbrev poly : ℕ → List ℕ
   poly j = layerAt hash p context f j .poly
 
-  -- The number at index i of layer j is the polynomial's value there.
-  value-in : (j i : ℕ) → j < p .k → i < layerSize (p .n) j → getD (w .numbers) (layerSize (p .n) j + i) 0 ≡ eval (poly j) (point (p .n) j i)
-  unfolding valuesIn values
-  value-in j i h l =
-      part-number (layerSize (p .n) j) (layerSize (p .n) j) i (w .numbers) l
-      ∙ ap (λ xs. getD xs i 0) (stands .values-in j h)
-      ∙ tabulate-at (layerSize (p .n) j) _ i 0 l
+  -- Value i of layer j is the polynomial's value there.
+  value-in : (j i : ℕ) → j < p .k → i < layerSize (p .n) j → getD (valuesIn p j (w .numbers)) i 0 ≡ eval (poly j) (point (p .n) j i)
+  unfolding values
+  value-in j i h l = ap (λ xs. getD xs i 0) (represents .values-in j h) ∙ tabulate-at (layerSize (p .n) j) _ i 0 l
 
   siblings-in : (j m : ℕ) → j < p .k → m < leafCount p j
       → siblingsIn (height p j) (part (treeStart p j) (treeSize (height p j)) (w .bytes)) m ≡ joined (openingOf hash p context f j m .siblings)
   unfolding openingOf
   siblings-in j m h l =
-      ap (λ t. siblingsIn (height p j) t m) (stands .tree-in j h)
+      ap (λ t. siblingsIn (height p j) t m) (represents .tree-in j h)
       ∙ siblings-path hash size (height p j) (leaves hash p (poly j) j) m (leaves-length hash p (poly j) j) l (leaf-length hash p (poly j) j size)
 
   -- The opening of leaf m of layer j.
   pub opening-built : (j m : ℕ) → j < p .k → m < leafCount p j
       → openingIn p j m (w .numbers) (w .bytes) ≡ openingBytes (openingOf hash p context f j m)
-  unfolding openingIn leafIn leafValues openingBytes openingOf
+  unfolding openingIn leafIn valuesOf leafValues openingBytes openingOf
   opening-built j m h l =
       ap₂ (λ vs r. words vs ++ r)
       (tabulate-same (valuesPerLeaf p) _ _ (λ r b. value-in j (m + r * leafCount p j) h (index-lt p j m r (omega arith) l b)))
@@ -73,11 +59,11 @@ module _ (hash : List ℕ → Digest) (size : (xs : List ℕ) → length (hash x
   -- The final coefficients, and so the leaves that are drawn.
   pub final-built : finalIn p hash w ≡ poly (p .k)
   unfolding polyIn finalCount
-  final-built = stands .poly
+  final-built = represents .poly
 
   leaf-built : (i : ℕ) → drawn hash (finish hash (w .state) (finalIn p hash w)) (indexBits p) i ≡ builtLeaf hash p context f i
   unfolding builtLeaf
-  leaf-built i = ap₂ (λ s g. drawn hash (finish hash s g) (indexBits p) i) (stands .state) final-built
+  leaf-built i = ap₂ (λ s g. drawn hash (finish hash s g) (indexBits p) i) (represents .state) final-built
 
   -- The openings of the query at leaf m, and those of all queries.
   query-built : (m : ℕ) → queryIn p m (w .numbers) (w .bytes) ≡ queryBytes (tabulate (p .k) (λ j. openingOf hash p context f j (m % leafCount p j)))

@@ -1,2 +1,2 @@
 -- The writer's buffers, step by step.
-pub mod Work
+pub mod Buffers

@@ -3,7 +3,7 @@
 use Prim.Native.Nat.{_*_, _^_, _%_, _-_}
 use native.Mathlib.Omega.{arith}
 use native.Mathlib.Nat.{mod-le}
-use Rattle.domain.proofs.Index.{leaf-none, half-shifted, half-large, half-positive}
+use Rattle.domain.proofs.Index.{leaf-none, half-large, shifted-positive, leaf-shifted}
 use borrow.Author.Needs.{needs}
 use Rattle.domain.proofs.leaf_of.Statement.{statement}
 use Rattle.domain.proofs.leaf_of.Tie as tie
@@ -24,13 +24,13 @@ shl-size : tie.Need-shl-size
 shl-size c = search needs
 
 rem-result : tie.Need-rem-result
-rem-result c = rw (half-shifted _ _ (c .if2 .taken)) (half-positive _ _)
+rem-result c = shifted-positive _ _ (c .if2 .taken)
 
 cast-result : tie.Need-cast-result
 cast-result c = record { fits = omega (arith, mod-le (c .before .before .args .index) (1 * 2 ^ (c .before .before .args .n - c .before .before .args .layer - 1) % 18446744073709551616)) }
 
 returns-2 : tie.Need-returns-2
-returns-2 c = rw (half-shifted _ _ (c .if2 .taken))
+returns-2 c = leaf-shifted _ _ _ (c .if2 .taken)
 
 returns-3 : tie.Need-returns-3
 returns-3 c = half-large _ _ _ (c .if2 .left) (search needs)

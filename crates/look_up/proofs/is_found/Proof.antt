@@ -13,11 +13,11 @@ cast-q c = search needs
 cast-k : tie.Need-cast-k
 cast-k c = search needs
 
-is-valid-requires : tie.Need-is-valid-requires
-is-valid-requires c κs = search needs
+admission-requires : tie.Need-admission-requires
+admission-requires c κs = search needs
 
 returns : tie.Need-returns
-returns c = found-test _ _ _ _ (c .before .before .before .file-length .ensures) (c .is-valid .ensures)
+returns c = found-test _ _ _ _ (c .before .before .before .file-length .ensures) (c .admission .ensures)
 
 pub is-found-spec : {M : Type 1} → statement M
-is-found-spec = tie.close (tie.spec file-length-requires cast-q cast-k is-valid-requires returns)
+is-found-spec = tie.close (tie.spec file-length-requires cast-q cast-k admission-requires returns)

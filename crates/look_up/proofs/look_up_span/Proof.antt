@@ -9,8 +9,8 @@ use Rattle.look_up.proofs.look_up_span.Tie as tie
 is-found-requires : tie.Need-is-found-requires
 is-found-requires c κs = search needs
 
-is-valid-requires : tie.Need-is-valid-requires
-is-valid-requires c κs = search needs
+admission-requires : tie.Need-admission-requires
+admission-requires c κs = search needs
 
 look-up-number-requires : tie.Need-look-up-number-requires
 look-up-number-requires c κs = search needs
@@ -36,19 +36,19 @@ opening-length-requires c κs = search needs
 returns : tie.Need-returns
 returns c =
     let t = c .before .before in
-    span-found _ _ _ _ (t .before .before .is-valid .ensures) (t .before .before .before .is-found .ensures) (t .before .look-up-number .ensures) (t .if1 .taken)
+    span-found _ _ _ _ (t .before .before .admission .ensures) (t .before .before .before .is-found .ensures) (t .before .look-up-number .ensures) (t .if1 .taken)
     (c .before .opening-offset .ensures) (c .opening-length .ensures)
 
 returns-2 : tie.Need-returns-2
 returns-2 c =
-    span-none _ _ _ _ (c .before .before .is-valid .ensures) (c .before .before .before .is-found .ensures) (c .before .look-up-number .ensures) (c .if1 .left)
+    span-none _ _ _ _ (c .before .before .admission .ensures) (c .before .before .before .is-found .ensures) (c .before .look-up-number .ensures) (c .if1 .left)
 
 pub look-up-span-spec : {M : Type 1} → statement M
 look-up-span-spec =
     tie.close
     (tie.spec
     is-found-requires
-    is-valid-requires
+    admission-requires
     look-up-number-requires
     cast-i
     cast-j

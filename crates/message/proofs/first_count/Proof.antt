@@ -1,7 +1,7 @@
 -- `message::first_count` meets its contract.
 -- Assumes nothing.
 use borrow.Author.Needs.{needs}
-use Rattle.message.proofs.Bytes.{num-two}
+use Rattle.message.proofs.Bytes.{two-read}
 use Rattle.message.proofs.first_count.Statement.{statement}
 use Rattle.message.proofs.first_count.Tie as tie
 
@@ -24,7 +24,7 @@ add-result : tie.Need-add-result
 add-result c = search needs
 
 returns : tie.Need-returns
-returns c = cc (num-two (c .before .before .args .t1) (search needs))
+returns c = two-read (c .before .before .args .t1) (search needs) (c .before .wide .ensures .0) (c .wide2 .ensures .0)
 
 pub first-count-spec : {M : Type 1} → statement M
 first-count-spec =

@@ -1,7 +1,7 @@
 -- `message::first_u64` meets its contract.
 -- Assumes nothing.
 use borrow.Author.Needs.{needs}
-use Rattle.message.proofs.Bytes.{num-eight}
+use Rattle.message.proofs.Bytes.{eight-read}
 use Rattle.message.proofs.first_u64.Statement.{statement}
 use Rattle.message.proofs.first_u64.Tie as tie
 
@@ -63,7 +63,8 @@ add-result : tie.Need-add-result
 add-result c = search needs
 
 returns : tie.Need-returns
-returns c = cc (num-eight (c .before .before .before .before .before .args .t1) (search needs))
+returns c =
+    eight-read (c .before .before .before .before .before .args .t1) (search needs) (c .first-number .ensures) (c .before .before .before .before .wide .ensures .0) (c .before .before .before .wide2 .ensures .0) (c .before .before .wide3 .ensures .0) (c .before .wide4 .ensures .0)
 
 pub first-u64-spec : {M : Type 1} → statement M
 first-u64-spec =

@@ -5,9 +5,6 @@ use borrow.Author.Needs.{needs}
 use Rattle.reader.proofs.start.Statement.{statement}
 use Rattle.reader.proofs.start.Tie as tie
 
-start-requires : tie.Need-start-requires
-start-requires c κs = search needs
-
 no-cursor-requires : tie.Need-no-cursor-requires
 no-cursor-requires c κs = search needs
 
@@ -19,9 +16,9 @@ no-tables-requires c κs = search needs
 
 returns : tie.Need-returns
 unfolding started
-returns c = rw (c .no-tables .ensures, c .before .no-walk .ensures, c .before .before .no-cursor .ensures, c .before .before .before .before .start .ensures)
+returns c = rw (c .no-tables .ensures, c .before .no-walk .ensures, c .before .before .no-cursor .ensures)
 
 pub start-spec : {M : Type 1} → statement M
 start-spec =
     tie.close
-    (tie.spec start-requires no-cursor-requires no-walk-requires no-tables-requires returns)
+    (tie.spec no-cursor-requires no-walk-requires no-tables-requires returns)

@@ -28,14 +28,14 @@ folded-requires c κs = search needs
 values-per-leaf-requires : tie.Need-values-per-leaf-requires
 values-per-leaf-requires c κs = search needs
 
-leaf-requires : tie.Need-leaf-requires
-leaf-requires c κs = search needs
+leaf-digest-requires : tie.Need-leaf-digest-requires
+leaf-digest-requires c κs = search needs
 
 returns : tie.Need-returns
 unfolding atLeaf half
 returns c =
     let values = c .before .before .before .before .before .before .before .args .t3 in
-    simp (c .leaf .ensures, c .before .values-per-leaf .ensures, c .before .before .folded .ensures, c .before .before .before .scale .ensures, c .before .before .before .before .point .ensures, c .before .before .before .before .before .leaf-of .ensures, first-of values, second-of values)
+    simp (c .leaf-digest .ensures, c .before .values-per-leaf .ensures, c .before .before .folded .ensures, c .before .before .before .scale .ensures, c .before .before .before .before .point .ensures, c .before .before .before .before .before .leaf-of .ensures, first-of values, second-of values)
 
 pub at-leaf-spec : {M : Type 1} → statement M
 at-leaf-spec =
@@ -48,5 +48,5 @@ at-leaf-spec =
     array-read-folded-2
     folded-requires
     values-per-leaf-requires
-    leaf-requires
+    leaf-digest-requires
     returns)

@@ -11,16 +11,16 @@ final-count-requires c κs = search needs
 point-requires : tie.Need-point-requires
 point-requires c κs = search needs
 
-eval-requires : tie.Need-eval-requires
-eval-requires c κs = search needs
+eval-lent-requires : tie.Need-eval-lent-requires
+eval-lent-requires c κs = search needs
 
 agrees-requires : tie.Need-agrees-requires
 agrees-requires c κs = search needs
 
 returns : tie.Need-returns
 unfolding finished
-returns c = simp (c .agrees .ensures, c .before .eval .ensures, c .before .before .before .point .ensures, c .before .before .before .before .final-count .ensures)
+returns c = simp (c .agrees .ensures, c .before .eval-lent .ensures, c .before .before .before .point .ensures, c .before .before .before .before .final-count .ensures)
 
 pub is-final-spec : {M : Type 1} → statement M
 is-final-spec =
-    tie.close (tie.spec final-count-requires point-requires eval-requires agrees-requires returns)
+    tie.close (tie.spec final-count-requires point-requires eval-lent-requires agrees-requires returns)

@@ -5,7 +5,7 @@ use native.Mathlib.Omega.{arith}
 use borrow.Author.Needs.{needs}
 use denote.Ref.{now}
 use Rattle.tree.proofs.TreeLaws.{size-even}
-use Rattle.tree.proofs.Rows.{path-high, path-size, path-leaf, path-none, path-fits, path-stays}
+use Rattle.tree.proofs.Rows.{size-high, size-other, path-size, path-leaf, path-none, path-fits, path-stays}
 use Rattle.tree.proofs.put_path.Statement.{statement}
 use Rattle.tree.proofs.put_path.Tie as tie
 
@@ -70,7 +70,7 @@ returns-5 c =
     let d = s .args .height in
     let tree = now (s .args .tree) in
     let buffer = now (s .args .buffer) in
-    sym (path-none d (s .args .m) (s .args .at) tree buffer (path-size d _ _ (λ e. c .if2 .left (omega (arith, e, size-even d)))))
+    sym (path-none d (s .args .m) (s .args .at) tree buffer (path-size d _ _ (size-other d _ (λ e. c .if2 .left (omega (arith, e, size-even d))))))
 
 returns-6 : tie.Need-returns-6
 returns-6 c =
@@ -78,7 +78,7 @@ returns-6 c =
     let d = s .args .height in
     let tree = now (s .args .tree) in
     let buffer = now (s .args .buffer) in
-    sym (path-none d (s .args .m) (s .args .at) tree buffer (path-high d _ _ (c .if1 .left)))
+    sym (path-none d (s .args .m) (s .args .at) tree buffer (path-size d _ _ (size-high d _ (c .if1 .left))))
 
 pub put-path-spec : {M : Type 1} → statement M
 put-path-spec =

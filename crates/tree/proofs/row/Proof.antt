@@ -13,10 +13,10 @@ use Rattle.tree.proofs.row.Statement.{statement}
 use Rattle.tree.proofs.row.Tie as tie
 
 abbrev Inv-loop : tie.InvT-loop
-Inv-loop room₀ from count to i₀ room i = (i ≤ count) × (length room ≡ length room₀) × (room ≡ sets room₀ to (joined (tabulate i (pairAt sha256 (drop from room₀)))))
+Inv-loop space₀ from count to i₀ space i = (i ≤ count) × (length space ≡ length space₀) × (space ≡ sets space₀ to (joined (tabulate i (pairAt sha256 (drop from space₀)))))
 
 abbrev μ-loop : tie.MeasureT-loop
-μ-loop room₀ from count to i₀ room i = count - i
+μ-loop space₀ from count to i₀ space i = count - i
 
 mul-to : tie.Need-mul-to Inv-loop μ-loop
 mul-to c = search needs

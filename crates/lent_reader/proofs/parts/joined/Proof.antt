@@ -2,7 +2,7 @@
 -- Assumes nothing.
 use mathlib.Core.Path.{_≡_}
 use lib.ListN.{length}
-use Rattle.lent_reader.proofs.Laws.{joined-words}
+use Rattle.lent_reader.proofs.Laws.{joined-u32s}
 use borrow.Author.Needs.{needs}
 use Rattle.lent_reader.proofs.parts.joined.Statement.{statement}
 use Rattle.lent_reader.proofs.parts.joined.Tie as tie
@@ -41,7 +41,7 @@ returns : tie.Need-returns
 returns c =
     let six : length (c .args .t1) ≡ 6 = search needs in
     let four : length (c .args .t2) ≡ 4 = search needs in
-    joined-words (c .args .t1) (c .args .t2) six four
+    joined-u32s (c .args .t1) (c .args .t2) six four
 
 pub joined-spec : {M : Type 1} → statement M
 joined-spec =

@@ -2,7 +2,9 @@
 -- Assumes nothing.
 use Rattle.reader_model.specs.Items.{rootState, afterRoot, rootsAfter, challengesAfter}
 use Rattle.reader_items.proofs.Laws.{taken, left}
-use mathlib.Core.Path.{refl, _∙_}
+use mathlib.Core.Path.{_≡_, refl, _∙_}
+use Rattle.sha256.specs.Sha256.{sha256}
+use Rattle.transcript.specs.Transcript.{absorb, challenge}
 use borrow.Author.Tests.{lt-ltb, le-ltb}
 use borrow.Author.Needs.{needs}
 use Rattle.reader_items.proofs.sections.after_root.Statement.{statement}
@@ -34,17 +36,23 @@ moved-requires-2 c κs = search needs
 
 returns : tie.Need-returns
 unfolding afterRoot rootsAfter challengesAfter rootState
-returns c = (
-  rw (← (c .before .before .before .before .before .before .before .before .before .layer .ensures .0)) (c .moved .ensures ∙ taken _ (lt-ltb _ _ (c .before .before .if1 .taken))),
-  (c .before .before .before .before .before .before .put-root .ensures, rw (← (c .before .before .before .before .before .before .before .before .before .layer .ensures .1)) refl),
-)
+returns c =
+    let core = c .before .before .before .before .before .before .before .before .before .before .before .before .args .c in
+    let state : c .before .before .before .before .before .before .before .before .before .layer .result .state ≡ absorb sha256 (core .transcript) (core .item) = c .before .before .before .before .before .before .before .before .before .layer .ensures .0 in
+    let drawn : c .before .before .before .before .before .before .before .before .before .layer .result .challenge ≡ challenge sha256 (absorb sha256 (core .transcript) (core .item)) = c .before .before .before .before .before .before .before .before .before .layer .ensures .1 in (
+      rw (← state) (c .moved .ensures ∙ taken _ (lt-ltb _ _ (c .before .before .if1 .taken))),
+      (c .before .before .before .before .before .before .put-root .ensures, rw (← drawn) refl),
+    )
 
 returns-2 : tie.Need-returns-2
 unfolding afterRoot rootsAfter challengesAfter rootState
-returns-2 c = (
-  rw (← (c .before .before .before .before .before .before .before .before .before .layer .ensures .0)) (c .moved2 .ensures ∙ left _ (le-ltb _ _ (c .before .before .if1 .left))),
-  (c .before .before .before .before .before .before .put-root .ensures, rw (← (c .before .before .before .before .before .before .before .before .before .layer .ensures .1)) refl),
-)
+returns-2 c =
+    let core = c .before .before .before .before .before .before .before .before .before .before .before .before .args .c in
+    let state : c .before .before .before .before .before .before .before .before .before .layer .result .state ≡ absorb sha256 (core .transcript) (core .item) = c .before .before .before .before .before .before .before .before .before .layer .ensures .0 in
+    let drawn : c .before .before .before .before .before .before .before .before .before .layer .result .challenge ≡ challenge sha256 (absorb sha256 (core .transcript) (core .item)) = c .before .before .before .before .before .before .before .before .before .layer .ensures .1 in (
+      rw (← state) (c .moved2 .ensures ∙ left _ (le-ltb _ _ (c .before .before .if1 .left))),
+      (c .before .before .before .before .before .before .put-root .ensures, rw (← drawn) refl),
+    )
 
 pub after-root-spec : {M : Type 1} → statement M
 after-root-spec =

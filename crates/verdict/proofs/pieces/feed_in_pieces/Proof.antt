@@ -14,12 +14,12 @@ use Rattle.verdict.proofs.pieces.feed_in_pieces.Statement.{statement}
 use Rattle.verdict.proofs.pieces.feed_in_pieces.Tie as tie
 
 abbrev Inv-loop : tie.InvT-loop
-Inv-loop marks₀ words₀ counts₀ item₀ node₀ transcript₀ roots₀ challenges₀ coefficients₀ proof size at₀ marks words counts item node transcript roots challenges coefficients at =
+Inv-loop u8s₀ u32s₀ sizes₀ item₀ node₀ transcript₀ roots₀ challenges₀ coefficients₀ proof size at₀ u8s u32s sizes item node transcript roots challenges coefficients at =
     (at ≤ length proof)
-    × (readerOf (held marks words counts item node transcript roots challenges coefficients) ≡ fed sha256 (readerOf (held marks₀ words₀ counts₀ item₀ node₀ transcript₀ roots₀ challenges₀ coefficients₀)) (take at proof))
+    × (readerOf (held u8s u32s sizes item node transcript roots challenges coefficients) ≡ fed sha256 (readerOf (held u8s₀ u32s₀ sizes₀ item₀ node₀ transcript₀ roots₀ challenges₀ coefficients₀)) (take at proof))
 
 abbrev μ-loop : tie.MeasureT-loop
-μ-loop marks₀ words₀ counts₀ item₀ node₀ transcript₀ roots₀ challenges₀ coefficients₀ proof size at₀ marks words counts item node transcript roots challenges coefficients at =
+μ-loop u8s₀ u32s₀ sizes₀ item₀ node₀ transcript₀ roots₀ challenges₀ coefficients₀ proof size at₀ u8s u32s sizes item node transcript roots challenges coefficients at =
     length proof - at
 
 loop-holds : tie.Need-loop-holds Inv-loop μ-loop

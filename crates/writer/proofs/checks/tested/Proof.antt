@@ -3,32 +3,33 @@
 use mathlib.Core.Path.{sym, _∙_}
 use native.Mathlib.Omega.{arith}
 use borrow.Author.Needs.{needs}
-use Rattle.params.proofs.ParameterLaws.{valid-facts, from-valid}
-use Rattle.writer.proofs.WriterLaws.{not-valid, wrong-count, not-below, few-numbers, few-bytes, short-output, none-fails, upheld, refuted}
+use Rattle.params.proofs.ParameterLaws.{from-valid}
+use Rattle.params.proofs.AdmissionLaws.{admitted-valid}
+use Rattle.writer.proofs.WriterLaws.{not-admitted, wrong-count, not-below, few-numbers, few-bytes, short-output, none-fails, upheld, refuted}
 use Rattle.writer.proofs.checks.tested.Statement.{statement}
 use Rattle.writer.proofs.checks.tested.Tie as tie
 
-is-valid-requires : tie.Need-is-valid-requires
-is-valid-requires c κs = search needs
+admission-requires : tie.Need-admission-requires
+admission-requires c κs = search needs
 
 returns : tie.Need-returns
-returns c = not-valid _ _ _ _ _ (refuted _ (c .before .is-valid .ensures) (c .if1 .taken))
+returns c = not-admitted _ _ _ _ _ (c .before .admission .ensures) (c .if1 .taken)
 
 sub-power : tie.Need-sub-power
 sub-power c =
-    let v = upheld _ (c .before .before .is-valid .ensures) (c .before .if1 .left) in
-    let facts = valid-facts _ v in
+    let v = sym (c .before .before .admission .ensures) ∙ c .before .if1 .left in
+    let facts = admitted-valid _ v in
     omega arith
 
 power-requires : tie.Need-power-requires
 power-requires c κs =
-    let v = upheld _ (c .before .before .is-valid .ensures) (c .before .if1 .left) in
-    let facts = valid-facts _ v in
+    let v = sym (c .before .before .admission .ensures) ∙ c .before .if1 .left in
+    let facts = admitted-valid _ v in
     omega arith
 
 returns-2 : tie.Need-returns-2
 returns-2 c =
-    let v = upheld _ (c .before .before .before .before .is-valid .ensures) (c .before .before .before .if1 .left) in
+    let v = sym (c .before .before .before .before .admission .ensures) ∙ c .before .before .before .if1 .left in
     wrong-count _ _ _ _ _ v (λ e. c .if2 .taken (e ∙ sym (c .before .power .ensures .0)))
 
 all-below-requires : tie.Need-all-below-requires
@@ -36,13 +37,13 @@ all-below-requires c κs = search needs
 
 returns-3 : tie.Need-returns-3
 returns-3 c =
-    let v = upheld _ (c .before .before .before .before .before .before .is-valid .ensures) (c .before .before .before .before .before .if1 .left) in
+    let v = sym (c .before .before .before .before .before .before .admission .ensures) ∙ c .before .before .before .before .before .if1 .left in
     not-below _ _ _ _ _ v (omega (arith, c .before .before .before .power .ensures)) (refuted _ (c .before .all-below .ensures) (c .if3 .taken))
 
 power-requires-2 : tie.Need-power-requires-2
 power-requires-2 c κs =
-    let v = upheld _ (c .before .before .before .before .before .before .is-valid .ensures) (c .before .before .before .before .before .if1 .left) in
-    let facts = valid-facts _ v in
+    let v = sym (c .before .before .before .before .before .before .admission .ensures) ∙ c .before .before .before .before .before .if1 .left in
+    let facts = admitted-valid _ v in
     omega arith
 
 file-length-requires : tie.Need-file-length-requires
@@ -56,29 +57,29 @@ mul-bytes-needed c = search needs
 
 returns-4 : tie.Need-returns-4
 returns-4 c =
-    let v = upheld _ (c .before .before .before .before .before .before .before .before .before .is-valid .ensures) (c .before .before .before .before .before .before .before .before .if1 .left) in
+    let v = sym (c .before .before .before .before .before .before .before .before .before .admission .ensures) ∙ c .before .before .before .before .before .before .before .before .if1 .left in
     few-numbers _ _ _ _ _ v (omega (arith, c .before .before .before .before .before .before .power .ensures)) (upheld _ (c .before .before .before .before .all-below .ensures) (c .before .before .before .if3 .left)) (omega (arith, c .before .before .power2 .ensures))
 
 returns-5 : tie.Need-returns-5
 returns-5 c =
-    let v = upheld _ (c .before .before .before .before .before .before .before .before .before .before .is-valid .ensures) (c .before .before .before .before .before .before .before .before .before .if1 .left) in
+    let v = sym (c .before .before .before .before .before .before .before .before .before .before .admission .ensures) ∙ c .before .before .before .before .before .before .before .before .before .if1 .left in
     few-bytes _ _ _ _ _ v (omega (arith, c .before .before .before .before .before .before .before .power .ensures)) (upheld _ (c .before .before .before .before .before .all-below .ensures) (c .before .before .before .before .if3 .left)) (omega (arith, c .before .before .before .power2 .ensures)) (omega (arith, c .before .before .before .power2 .ensures))
 
 returns-6 : tie.Need-returns-6
 returns-6 c =
-    let v = upheld _ (c .before .before .before .before .before .before .before .before .before .before .before .is-valid .ensures) (c .before .before .before .before .before .before .before .before .before .before .if1 .left) in
-    short-output _ _ _ _ _ v (omega (arith, c .before .before .before .before .before .before .before .before .power .ensures)) (upheld _ (c .before .before .before .before .before .before .all-below .ensures) (c .before .before .before .before .before .if3 .left)) (omega (arith, c .before .before .before .before .power2 .ensures)) (omega (arith, c .before .before .before .before .power2 .ensures)) (omega (arith, from-valid _ _ (valid-facts _ v) (c .before .before .before .file-length .ensures)))
+    let v = sym (c .before .before .before .before .before .before .before .before .before .before .before .admission .ensures) ∙ c .before .before .before .before .before .before .before .before .before .before .if1 .left in
+    short-output _ _ _ _ _ v (omega (arith, c .before .before .before .before .before .before .before .before .power .ensures)) (upheld _ (c .before .before .before .before .before .before .all-below .ensures) (c .before .before .before .before .before .if3 .left)) (omega (arith, c .before .before .before .before .power2 .ensures)) (omega (arith, c .before .before .before .before .power2 .ensures)) (omega (arith, from-valid _ _ (admitted-valid _ v) (c .before .before .before .file-length .ensures)))
 
 returns-7 : tie.Need-returns-7
 returns-7 c =
-    let v = upheld _ (c .before .before .before .before .before .before .before .before .before .before .before .is-valid .ensures) (c .before .before .before .before .before .before .before .before .before .before .if1 .left) in
-    none-fails _ _ _ _ _ v (omega (arith, c .before .before .before .before .before .before .before .before .power .ensures)) (upheld _ (c .before .before .before .before .before .before .all-below .ensures) (c .before .before .before .before .before .if3 .left)) (omega (arith, c .before .before .before .before .power2 .ensures)) (omega (arith, c .before .before .before .before .power2 .ensures)) (omega (arith, from-valid _ _ (valid-facts _ v) (c .before .before .before .file-length .ensures)))
+    let v = sym (c .before .before .before .before .before .before .before .before .before .before .before .admission .ensures) ∙ c .before .before .before .before .before .before .before .before .before .before .if1 .left in
+    none-fails _ _ _ _ _ v (omega (arith, c .before .before .before .before .before .before .before .before .power .ensures)) (upheld _ (c .before .before .before .before .before .before .all-below .ensures) (c .before .before .before .before .before .if3 .left)) (omega (arith, c .before .before .before .before .power2 .ensures)) (omega (arith, c .before .before .before .before .power2 .ensures)) (omega (arith, from-valid _ _ (admitted-valid _ v) (c .before .before .before .file-length .ensures)))
 
 pub tested-spec : {M : Type 1} → statement M
 tested-spec =
     tie.close
     (tie.spec
-    is-valid-requires
+    admission-requires
     returns
     sub-power
     power-requires

@@ -2,12 +2,10 @@
 -- Assumes nothing.
 use native.Mathlib.Omega.{arith}
 use denote.Ref.{now}
-use Rattle.writer.proofs.LayerLaws.{layer-fits, layer-positive, root-left, tree-left}
 use borrow.Author.Needs.{needs}
+use Rattle.writer.proofs.LayerLaws.{layer-fits, values-full, tree-ends, tree-full, root-left, tree-left}
 use Rattle.writer.proofs.layers.commit.Statement.{statement}
 use Rattle.writer.proofs.layers.commit.Tie as tie
-use Rattle.tree.proofs.grow.Reads as grow-reads
-use Rattle.writer.proofs.sizes.size_of.Reads as size-of-reads
 
 size-of-requires : tie.Need-size-of-requires
 size-of-requires c κs = search needs
@@ -18,57 +16,75 @@ mul-end c = search needs
 mul-from : tie.Need-mul-from
 mul-from c = search needs
 
+leaves-of-requires : tie.Need-leaves-of-requires
+leaves-of-requires c κs = search needs
+
 mul-to : tie.Need-mul-to
 mul-to c = search needs
 
+add-to : tie.Need-add-to
+add-to c = search needs
+
 sub-to : tie.Need-sub-to
-sub-to c =
-    let a = c .before .before .before .args in
-    omega (arith, layer-positive (a .p .n) (a .layer), c .size-of .ensures)
+sub-to c = search needs
 
-sub-height : tie.Need-sub-height
-sub-height c = search needs
+mul-hash-layer : tie.Need-mul-hash-layer
+mul-hash-layer c = search needs
 
-sub-height-2 : tie.Need-sub-height-2
-sub-height-2 c = search needs
+sub-hash-layer : tie.Need-sub-hash-layer
+sub-hash-layer c = search needs
 
-mul-grow : tie.Need-mul-grow
-mul-grow c = search needs
+part-hash-layer-start : tie.Need-part-hash-layer-start
+part-hash-layer-start c = search needs
 
-sub-grow : tie.Need-sub-grow
-sub-grow c = search needs
+part-hash-layer-end : tie.Need-part-hash-layer-end
+part-hash-layer-end c =
+    let s = c .before .before .before .before in
+    let a = s .args in
+    let e = c .before .size-of .ensures .0 in
+    let f = c .leaves-of .ensures .0 in
+    omega (arith, layer-fits (a .p .n) (a .layer), e, s .pre)
 
-part-grow-start : tie.Need-part-grow-start
-part-grow-start c = search needs
+sub-hash-layer-2 : tie.Need-sub-hash-layer-2
+sub-hash-layer-2 c = search needs
 
-part-grow-end : tie.Need-part-grow-end
-part-grow-end c =
-    let a = c .before .before .before .before .args in
-    omega (arith, layer-fits (a .p .n) (a .layer), c .before .size-of .ensures)
+part-hash-layer-start-2 : tie.Need-part-hash-layer-start-2
+part-hash-layer-start-2 c = search needs
 
-sub-grow-2 : tie.Need-sub-grow-2
-sub-grow-2 c = search needs
+part-hash-layer-end-2 : tie.Need-part-hash-layer-end-2
+part-hash-layer-end-2 c =
+    let s = c .before .before .before .before .before in
+    let a = s .args in
+    let e = c .before .before .size-of .ensures .0 in
+    let f = c .before .leaves-of .ensures .0 in
+    tree-ends (a .p) (a .layer) (s .pre .0) (s .pre .1 .0) e f (now (a .bytes)) (s .pre .1 .1 .1)
 
-part-grow-start-2 : tie.Need-part-grow-start-2
-part-grow-start-2 c = search needs
-
-part-grow-end-2 : tie.Need-part-grow-end-2
-part-grow-end-2 c =
-    let a = c .before .before .before .before .before .args in
-    omega (arith, layer-fits (a .p .n) (a .layer), c .before .before .size-of .ensures)
-
-grow-requires : tie.Need-grow-requires
-grow-requires c κs = search needs
+hash-layer-requires : tie.Need-hash-layer-requires
+hash-layer-requires c κs =
+    let s = c .before .before .before .before .before .before in
+    let a = s .args in
+    let e = c .before .before .before .size-of .ensures .0 in
+    let f = c .before .before .leaves-of .ensures .0 in (
+      (s .pre .0, s .pre .1 .0),
+      (
+        values-full (a .p) (a .layer) (s .pre .0) (s .pre .1 .0) e f (now (a .numbers)) (s .pre .1 .1 .0),
+        tree-full (a .p) (a .layer) (s .pre .0) (s .pre .1 .0) e f (now (a .bytes)) (s .pre .1 .1 .1),
+      ),
+    )
 
 same-length : tie.Need-same-length
 same-length c = search needs
 
 returns : tie.Need-returns
 returns c =
-    let a = c .before .before .before .before .before .before .before .before .before .args in
+    let s = c .before .before .before .before .before .before .before .before .before in
+    let a = s .args in
     let e = c .before .before .before .before .before .before .size-of .ensures .0 in
-    let g = c .before .before .grow .ensures in
-    (root-left (a .p) (a .layer) (search needs) (search needs) (now (a .numbers)) (now (a .bytes)) (search needs) (search needs) e (search needs) (g .0), tree-left (a .p) (a .layer) (search needs) (search needs) (now (a .numbers)) (now (a .bytes)) (search needs) (search needs) e (search needs) (g .1))
+    let f = c .before .before .before .before .before .leaves-of .ensures .0 in
+    let g = c .before .before .hash-layer .ensures in (
+      root-left (a .p) (a .layer) (s .pre .0) (s .pre .1 .0) e f (now (a .bytes)) (s .pre .1 .1 .1) (now (a .numbers)) (s .pre .1 .1 .0) (g .0),
+      tree-left (a .p) (a .layer) (s .pre .0) (s .pre .1 .0) e f (now (a .bytes)) (s .pre .1 .1 .1) (now (a .numbers)) (s .pre .1 .1 .0) (g .1),
+    )
 
 pub commit-spec : {M : Type 1} → statement M
 commit-spec =
@@ -77,17 +93,17 @@ commit-spec =
     size-of-requires
     mul-end
     mul-from
+    leaves-of-requires
     mul-to
+    add-to
     sub-to
-    sub-height
-    sub-height-2
-    mul-grow
-    sub-grow
-    part-grow-start
-    part-grow-end
-    sub-grow-2
-    part-grow-start-2
-    part-grow-end-2
-    grow-requires
+    mul-hash-layer
+    sub-hash-layer
+    part-hash-layer-start
+    part-hash-layer-end
+    sub-hash-layer-2
+    part-hash-layer-start-2
+    part-hash-layer-end-2
+    hash-layer-requires
     same-length
     returns)

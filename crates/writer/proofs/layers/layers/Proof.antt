@@ -4,13 +4,13 @@ use Prim.Native.Nat.{_≤_, _-_}
 use mathlib.Core.Path.{_≡_, refl}
 use borrow.Author.Needs.{needs}
 use lib.ListN.{length}
-use Rattle.writer_model.specs.Work.{work}
+use Rattle.writer_model.specs.Buffers.{buffers}
 use Rattle.writer.proofs.StepLaws.{After, after-none, after-more, after-all}
 use Rattle.writer.proofs.layers.layers.Statement.{statement}
 use Rattle.writer.proofs.layers.layers.Tie as tie
 
 abbrev Inv-loop : tie.InvT-loop
-Inv-loop p numbers₀ bytes₀ file₀ t₀ j₀ numbers bytes file t j = ((j ≤ p .k) × ((length numbers ≡ length numbers₀) × ((length bytes ≡ length bytes₀) × (length file ≡ length file₀)))) × After p (work numbers₀ bytes₀ file₀ (t₀ .state)) j numbers bytes file (t .state)
+Inv-loop p numbers₀ bytes₀ file₀ t₀ j₀ numbers bytes file t j = ((j ≤ p .k) × ((length numbers ≡ length numbers₀) × ((length bytes ≡ length bytes₀) × (length file ≡ length file₀)))) × After p (buffers numbers₀ bytes₀ file₀ (t₀ .state)) j numbers bytes file (t .state)
 
 abbrev μ-loop : tie.MeasureT-loop
 μ-loop p numbers₀ bytes₀ file₀ t₀ j₀ numbers bytes file t j = p .k - j

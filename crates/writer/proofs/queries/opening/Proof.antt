@@ -1,21 +1,21 @@
--- `writer::queries::opening` meets its contract: two numbers and a path, one after the other.
+-- `writer::queries::opening` meets its contract: a leaf's values and its path, one after the other.
 -- Assumes nothing.
 use native.Mathlib.Omega.{arith}
 use denote.Ref.{now}
 use borrow.Author.Needs.{needs}
-use Rattle.writer.proofs.LayerLaws.{layer-fits, layer-positive}
-use Rattle.writer.proofs.QueryLaws.{half-inside, opening-left}
+use Rattle.writer.proofs.LayerLaws.{layer-fits, leaves-full, tree-ends}
+use Rattle.writer.proofs.QueryLaws.{opening-left}
 use Rattle.writer.proofs.queries.opening.Statement.{statement}
 use Rattle.writer.proofs.queries.opening.Tie as tie
 
 size-of-requires : tie.Need-size-of-requires
 size-of-requires c κs = search needs
 
-add-first : tie.Need-add-first
-add-first c = search needs
+leaves-of-requires : tie.Need-leaves-of-requires
+leaves-of-requires c κs = search needs
 
-add-second : tie.Need-add-second
-add-second c = search needs
+mul-end : tie.Need-mul-end
+mul-end c = search needs
 
 mul-from : tie.Need-mul-from
 mul-from c = search needs
@@ -23,41 +23,45 @@ mul-from c = search needs
 mul-to : tie.Need-mul-to
 mul-to c = search needs
 
+add-to : tie.Need-add-to
+add-to c = search needs
+
 sub-to : tie.Need-sub-to
-sub-to c =
-    let a = c .before .before .before .before .args in
-    omega (arith, layer-positive (a .p .n) (a .layer), c .size-of .ensures)
+sub-to c = search needs
 
-sub-height : tie.Need-sub-height
-sub-height c = search needs
+values-per-leaf-requires : tie.Need-values-per-leaf-requires
+values-per-leaf-requires c κs = search needs
 
-sub-height-2 : tie.Need-sub-height-2
-sub-height-2 c = search needs
+mul-put-values : tie.Need-mul-put-values
+mul-put-values c = search needs
 
-mul-put-number : tie.Need-mul-put-number
-mul-put-number c = search needs
+sub-put-values : tie.Need-sub-put-values
+sub-put-values c = search needs
 
-shared-slice-read-put-number : tie.Need-shared-slice-read-put-number
-shared-slice-read-put-number c =
-    let a = c .before .before .before .before .before .before .before .args in
-    omega (arith, layer-fits (a .p .n) (a .layer), c .before .before .before .size-of .ensures, half-inside (a .p) (a .layer) (search needs) (search needs))
+part-put-values-start : tie.Need-part-put-values-start
+part-put-values-start c = search needs
 
-put-number-requires : tie.Need-put-number-requires
-put-number-requires c κs = search needs
+part-put-values-end : tie.Need-part-put-values-end
+part-put-values-end c =
+    let s = c .before .before .before .before .before .before in
+    let a = s .args in
+    let e = c .before .before .size-of .ensures .0 in
+    let f = c .before .leaves-of .ensures .0 in
+    omega (arith, layer-fits (a .p .n) (a .layer), e, s .pre)
 
-add-put-number : tie.Need-add-put-number
-add-put-number c = search needs
+put-values-requires : tie.Need-put-values-requires
+put-values-requires c κs =
+    let s = c .before .before .before .before .before .before .before .before in
+    let a = s .args in
+    let e = c .before .before .before .before .size-of .ensures .0 in
+    let f = c .before .before .before .leaves-of .ensures .0 in
+    let per = c .before .before .values-per-leaf .ensures in (
+      (omega (arith, f, s .pre), c .before .before .before .leaves-of .ensures .1 .1),
+      (leaves-full (a .p) (a .layer) (s .pre .0 .0) (s .pre .0 .1 .0) e f (now (a .numbers)) (s .pre .1 .0) per, omega (arith, per, s .pre)),
+    )
 
-mul-put-number-2 : tie.Need-mul-put-number-2
-mul-put-number-2 c = search needs
-
-shared-slice-read-put-number-2 : tie.Need-shared-slice-read-put-number-2
-shared-slice-read-put-number-2 c =
-    let a = c .before .before .before .before .before .before .before .before .before .before .before .before .args in
-    omega (arith, layer-fits (a .p .n) (a .layer), c .before .before .before .before .before .before .before .before .size-of .ensures, half-inside (a .p) (a .layer) (search needs) (search needs))
-
-put-number-requires-2 : tie.Need-put-number-requires-2
-put-number-requires-2 c κs = search needs
+height-of-requires : tie.Need-height-of-requires
+height-of-requires c κs = search needs
 
 sub-put-path : tie.Need-sub-put-path
 sub-put-path c = search needs
@@ -67,8 +71,14 @@ part-put-path-start c = search needs
 
 part-put-path-end : tie.Need-part-put-path-end
 part-put-path-end c =
-    let a = c .before .before .before .before .before .before .before .before .before .before .before .before .before .before .before .args in
-    omega (arith, layer-fits (a .p .n) (a .layer), c .before .before .before .before .before .before .before .before .before .before .before .size-of .ensures)
+    let s = c .before .before .before .before .before .before .before .before .before .before .before .before in
+    let a = s .args in
+    let e = c .before .before .before .before .before .before .before .before .size-of .ensures .0 in
+    let f = c .before .before .before .before .before .before .before .leaves-of .ensures .0 in
+    tree-ends (a .p) (a .layer) (s .pre .0 .0) (s .pre .0 .1 .0) e f (now (a .bytes)) (s .pre .1 .1 .0)
+
+leaf-length-requires : tie.Need-leaf-length-requires
+leaf-length-requires c κs = search needs
 
 add-put-path : tie.Need-add-put-path
 add-put-path c = search needs
@@ -81,31 +91,35 @@ same-length c = search needs
 
 returns : tie.Need-returns
 returns c =
-    let a = c .before .before .before .before .before .before .before .before .before .before .before .before .before .before .before .before .before .before .before .before .args in
-    opening-left (a .p) (a .layer) (a .m) (search needs) (search needs) (search needs) (now (a .numbers)) (now (a .bytes)) (search needs) (now (a .file)) (a .at) (search needs) (c .before .before .before .before .before .before .before .before .before .before .before .before .before .before .before .before .size-of .ensures .0) (search needs) (c .before .before .before .before .before .before .before .before .before .before .before .before .put-number .ensures) (c .before .before .before .before .before .before .before .put-number2 .ensures) (c .before .before .put-path .ensures)
+    let s = c .before .before .before .before .before .before .before .before .before .before .before .before .before .before .before .before .before .before in
+    let a = s .args in
+    let e = c .before .before .before .before .before .before .before .before .before .before .before .before .before .before .size-of .ensures .0 in
+    let f = c .before .before .before .before .before .before .before .before .before .before .before .before .before .leaves-of .ensures .0 in
+    opening-left (a .p) (a .layer) (a .m) (s .pre .0 .0) (s .pre .0 .1 .0) (s .pre .0 .1 .1) (now (a .numbers)) (now (a .bytes)) (s .pre .1 .0) (s .pre .1 .1 .0) (now (a .file)) (a .at) (s .pre .1 .1 .1) e f
+    (c .before .before .before .before .before .before .before .before .before .before .before .before .values-per-leaf .ensures) (c .before .before .before .before .before .before .height-of .ensures .0) (c .before .before .before .leaf-length .ensures) (c .before .before .before .before .before .before .before .before .before .put-values .ensures) (c .before .before .put-path .ensures)
 
 pub opening-spec : {M : Type 1} → statement M
 opening-spec =
     tie.close
     (tie.spec
     size-of-requires
-    add-first
-    add-second
+    leaves-of-requires
+    mul-end
     mul-from
     mul-to
+    add-to
     sub-to
-    sub-height
-    sub-height-2
-    mul-put-number
-    shared-slice-read-put-number
-    put-number-requires
-    add-put-number
-    mul-put-number-2
-    shared-slice-read-put-number-2
-    put-number-requires-2
+    values-per-leaf-requires
+    mul-put-values
+    sub-put-values
+    part-put-values-start
+    part-put-values-end
+    put-values-requires
+    height-of-requires
     sub-put-path
     part-put-path-start
     part-put-path-end
+    leaf-length-requires
     add-put-path
     put-path-requires
     same-length

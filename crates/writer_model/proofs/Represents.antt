@@ -11,9 +11,9 @@ use Rattle.polynomial.specs.Polynomial.{values}
 use Rattle.tree.specs.Tree.{rows, treeSize}
 use Rattle.built.specs.Built.{leaves, layerAt, builtRoot}
 use lib.Seq.{sets}
-use Rattle.writer_model.specs.Work.{Work, polyIn, valuesIn, treeStart}
+use Rattle.writer_model.specs.Buffers.{Buffers, polyIn, valuesIn, treeStart}
 
-pub record Stands (hash : List ℕ → Digest) (p : Params) (context f file : List ℕ) (j : ℕ) (w : Work) : Type 0 where
+pub record Represents (hash : List ℕ → Digest) (p : Params) (context f file : List ℕ) (j : ℕ) (w : Buffers) : Type 0 where
   pub poly : polyIn p j (w .numbers) ≡ layerAt hash p context f j .poly
   pub state : w .state ≡ layerAt hash p context f j .state
   pub values-in : (i : ℕ) → i < j → valuesIn p i (w .numbers) ≡ values (p .n) i (layerAt hash p context f i .poly)

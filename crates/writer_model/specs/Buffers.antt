@@ -2,7 +2,7 @@
 -- in the lent bytes, each from the layer's size on; the polynomial stands in front of the numbers and is folded there.
 use Prim.Native.Nat.{ℕ, zero, suc, _+_, _*_, _^_, _-_, _%_}
 use mathlib.Core.List.{List, _++_}
-use lib.ListN.{take, getD}
+use lib.ListN.{take}
 use lib.Seq.{sets}
 use Rattle.params.specs.declared.Params.{Params}
 use Rattle.params.specs.Parameters.{headerSize, header, depth, valuesPerLeaf, height, leafCount, indexBits, finalCount, rootCountOffset, rootOffset, finalCountOffset, coefficientOffset, queryCountOffset, queriesOffset}
@@ -13,17 +13,17 @@ use Rattle.transcript.specs.Transcript.{start, absorb, challenge, finish, drawn
 use Rattle.fold.specs.Poly.{fold}
 use Rattle.message.specs.Lists.{tabulate}
 use Rattle.polynomial.specs.Polynomial.{layerSize, values}
-use Rattle.tree.specs.Tree.{leafRow, rows, siblingsIn, treeSize}
+use Rattle.tree.specs.Tree.{valuesOf, leafRow, rows, siblingsIn, treeSize}
 
 -- The lent buffers, and the transcript.
-pub record Work : Type 0 where
+pub record Buffers : Type 0 where
   pub numbers : List ℕ
   pub bytes : List ℕ
   pub file : List ℕ
   pub state : Digest
 
-abbrev pub work : List ℕ → List ℕ → List ℕ → Digest → Work
-work numbers bytes file state = record { numbers = numbers; bytes = bytes; file = file; state = state }
+abbrev pub buffers : List ℕ → List ℕ → List ℕ → Digest → Buffers
+buffers numbers bytes file state = record { numbers = numbers; bytes = bytes; file = file; state = state }
 
 module _ (p : Params) where
   -- Layer j's polynomial, and its values.
@@ -46,7 +46,7 @@ module _ (p : Params) where
 
   -- The values of leaf m of layer j.
   unfoldable pub leafIn : ℕ → ℕ → List ℕ → List ℕ
-  leafIn j m numbers = tabulate (valuesPerLeaf p) (λ r. getD numbers (layerSize (p .n) (depth p j) + (m + r * leafCount p j)) 0)
+  leafIn j m numbers = valuesOf (valuesPerLeaf p) (leafCount p j) (valuesIn j numbers) m
 
   -- The bytes of the opening of leaf m of layer j, those of a query, and those of all queries.
   unfoldable pub openingIn : ℕ → ℕ → List ℕ → List ℕ → List ℕ
@@ -62,16 +62,16 @@ module _ (p : Params) where
   module _ (hash : List ℕ → Digest) where
     -- Layer j's tree and root over its values.
     unfoldable pub treeIn : ℕ → List ℕ → List ℕ
-    treeIn j numbers = rows hash (height p j) (leafRow hash (height p j) (valuesIn j numbers))
+    treeIn j numbers = rows hash (height p j) (leafRow hash j (valuesPerLeaf p) (height p j) (valuesIn j numbers))
 
     unfoldable pub rootIn : ℕ → List ℕ → Digest
-    rootIn j numbers = rootOf hash (height p j) (leafRow hash (height p j) (valuesIn j numbers))
+    rootIn j numbers = rootOf hash (height p j) (leafRow hash j (valuesPerLeaf p) (height p j) (valuesIn j numbers))
 
     unfoldable pub queriesIn : Digest → List ℕ → List ℕ → List ℕ
     queriesIn s numbers bytes = joined (tabulate (p .q) (λ i. queryIn (drawn hash s (indexBits p) i) numbers bytes))
 
     -- One layer done: its values, its tree, its root in the file and in the transcript, and the fold.
-    unfoldable pub committed : ℕ → Work → Work
+    unfoldable pub committed : ℕ → Buffers → Buffers
     committed j w =
         record {
           numbers = withValues j (w .numbers);
@@ -80,7 +80,7 @@ module _ (p : Params) where
           state = absorb hash (w .state) (rootIn j (withValues j (w .numbers)));
         }
 
-    unfoldable pub layered : ℕ → Work → Work
+    unfoldable pub layered : ℕ → Buffers → Buffers
     layered j w =
         record {
           numbers = withFold j (challenge hash (committed j w .state)) (committed j w .numbers);
@@ -90,12 +90,12 @@ module _ (p : Params) where
         }
 
     -- The first layers done.
-    unfoldable pub allLayered : ℕ → Work → Work
+    unfoldable pub allLayered : ℕ → Buffers → Buffers
     allLayered zero w = w
     allLayered (suc j) w = layered j (allLayered j w)
 
     -- The start: the coefficients in front of the numbers, and the file up to its first root.
-    unfoldable pub begun : List ℕ → List ℕ → List ℕ → List ℕ → List ℕ → Work
+    unfoldable pub begun : List ℕ → List ℕ → List ℕ → List ℕ → List ℕ → Buffers
     begun context f numbers bytes file =
         record {
           numbers = sets numbers 0 f;
@@ -105,13 +105,13 @@ module _ (p : Params) where
         }
 
     -- The end: what the file is once the final coefficients and the openings stand in it too.
-    abbrev pub finalIn : Work → List ℕ
+    abbrev pub finalIn : Buffers → List ℕ
     finalIn w = take (finalCount p) (w .numbers)
 
-    unfoldable pub withFinal : Work → List ℕ
+    unfoldable pub withFinal : Buffers → List ℕ
     withFinal w = sets (sets (w .file) (finalCountOffset p) (le 2 (finalCount p))) (coefficientOffset p 0) (words (finalIn w))
 
-    unfoldable pub ended : Work → List ℕ
+    unfoldable pub ended : Buffers → List ℕ
     ended w =
         sets (sets (withFinal w) (queryCountOffset p) (le 2 (p .q))) (queriesOffset p)
         (queriesIn (finish hash (w .state) (finalIn w)) (w .numbers) (w .bytes))

@@ -1,4 +1,4 @@
--- `tree::rise` meets its contract: what stands and what is left to lay are the tree.
+-- `tree::hash_rows` meets its contract: what stands and what is left to lay are the tree.
 -- Assumes nothing.
 use Prim.Native.Nat.{_+_, _^_, _≤_, _<_}
 use mathlib.Core.List.{_++_}
@@ -9,19 +9,19 @@ use lib.ListN.{length, take, drop}
 use Rattle.sha256.specs.Sha256.{sha256}
 use Rattle.merkle.specs.Merkle.{digests}
 use Rattle.tree.specs.Tree.{treeSize, rows}
-use Rattle.tree.proofs.Rows.{row-fits, rest-fits, rise-turn, rise-end}
-use Rattle.tree.proofs.rise.Statement.{statement}
-use Rattle.tree.proofs.rise.Tie as tie
+use Rattle.tree.proofs.Rows.{row-fits, rest-fits, rows-turn, rows-end}
+use Rattle.tree.proofs.hash_rows.Statement.{statement}
+use Rattle.tree.proofs.hash_rows.Tie as tie
 
 abbrev Inv-loop : tie.InvT-loop
-Inv-loop room₀ height from₀ above₀ room from above =
+Inv-loop space₀ height from₀ above₀ space from above =
     (above ≤ height)
-    × (length room ≡ length room₀)
-    × (from + treeSize above ≡ length room)
-    × (take from room ++ rows sha256 above (digests (2 ^ above) (drop from room)) ≡ rows sha256 height (digests (2 ^ height) room₀))
+    × (length space ≡ length space₀)
+    × (from + treeSize above ≡ length space)
+    × (take from space ++ rows sha256 above (digests (2 ^ above) (drop from space)) ≡ rows sha256 height (digests (2 ^ height) space₀))
 
 abbrev μ-loop : tie.MeasureT-loop
-μ-loop room₀ height from₀ above₀ room from above = above
+μ-loop space₀ height from₀ above₀ space from above = above
 
 loop-holds : tie.Need-loop-holds Inv-loop μ-loop
 loop-holds c = search needs
@@ -54,7 +54,7 @@ loop-again c =
       search needs,
       search needs,
       rest-fits (l .from) (l .above) _ _ more count (omega arith),
-      rise-turn _ (l .from) (l .above) _ more count (l .inv .2) (c .before .before .row .ensures) (l .inv .3),
+      rows-turn _ (l .from) (l .above) _ more count (l .inv .2) (c .before .before .row .ensures) (l .inv .3),
     )
 
 same-length : tie.Need-same-length Inv-loop μ-loop
@@ -63,10 +63,10 @@ same-length c = search needs
 returns : tie.Need-returns Inv-loop μ-loop
 returns c =
     let l = c .before .loop in
-    rise-end _ (l .from) (l .above) (c .loop-test .left) (l .inv .2) (l .inv .3)
+    rows-end _ (l .from) (l .above) (c .loop-test .left) (l .inv .2) (l .inv .3)
 
-pub rise-spec : {M : Type 1} → statement M
-rise-spec =
+pub hash-rows-spec : {M : Type 1} → statement M
+hash-rows-spec =
     tie.close
     (tie.spec
     Inv-loop
