@@ -13,11 +13,14 @@ prints signature and contract, and checks:
 What it cannot read it does not pass over: every `fn`, `mod`, `use` and `pub` of the code, every import of a specs file and every line of an edit
 has to have the form that it knows.
 It checks that the code of the field and of what evaluates with it, with every crate called from there, divides by powers of two alone.
-Then it checks the papers: each must-fail edit fits its file at exactly one place and is named in docs/PROMISES.md, each public call has its two
-wrong programs there, the numbers of edits that it tells are the true ones, and every file that the papers name is there. No axiom is declared
-and no proof cites `lem` or `ac`.
+Then it checks the edits and the papers: each must-fail edit fits its file at exactly one place and, if it is a wrong program, names its public
+call in a line `# of CALL`; each public call has two of them; docs/WRONG-PROGRAMS.md, which counts and lists them all, is what the edits say;
+and every file, link and theorem that the papers name is there. No axiom is declared and no proof cites `lem` or `ac`.
 
-Usage: tests/audit.py [--list]     (--list prints the contracts; without it only the counts)
+Usage: tests/audit.py [--list | --theorems | --page]
+    --list       prints the contracts too
+    --theorems   prints the statement of every theorem that docs/PROMISES.md names, with its file and line
+    --page       writes docs/WRONG-PROGRAMS.md from the edits
 """
 import re
 import sys
@@ -488,8 +491,15 @@ def is_program(kinds):
     return "code" in kinds and not kinds & {"contract", "definition"}
 
 
-def check_edits(promises):
-    """crate → edit → what it changes."""
+class Edit:
+    """A must-fail edit: what it changes, the public calls that it makes wrong, and the definition files that it changes."""
+
+    def __init__(self, kinds, calls, files):
+        self.kinds, self.calls, self.files = kinds, calls, files
+
+
+def check_edits(names):
+    """crate → edit name → Edit. `names` are the public calls."""
     edits = {}
     for path in sorted(ROOT.glob("crates/*/must-fail/*")):
         crate = path.parts[-3]
@@ -497,7 +507,7 @@ def check_edits(promises):
         if path.suffix != ".edit":
             fault(where, "not an edit")
             continue
-        before, after = {}, {}
+        before, after, calls = {}, {}, []
         target = old = None
         for line in path.read_text().splitlines():
             word, _, rest = line.partition(":")
@@ -514,10 +524,12 @@ def check_edits(promises):
             elif line.startswith("new:") and old is not None:
                 after[target] = after[target].replace(old, rest)  # a later change of the same edit is made in what this one left
                 old = None
+            elif re.fullmatch(r"# of [\w:]*::[\w:]*(?:, [\w:]*::[\w:]*)*", line) and target is None:
+                calls += line.removeprefix("# of ").split(", ")
+                for call in set(calls) - names:
+                    fault(where, f"is of {call}, which is no public call")
             elif not re.fullmatch(r"(#.*)?", line):
                 fault(where, f"a line of no known kind: {line}")
-        if f"`{path.stem}`" not in promises and f"`{crate}/{path.stem}`" not in promises:
-            fault(where, "not named in docs/PROMISES.md")
         try:
             kinds = kinds_of(before, after)
         except (ValueError, AttributeError, IndexError):
@@ -525,42 +537,82 @@ def check_edits(promises):
             kinds = set()
         if not kinds & {"code", "contract", "definition"}:
             fault(where, "changes neither code nor a statement")
-        edits.setdefault(crate, {})[path.stem] = kinds
+        if is_program(kinds) and not calls and crate not in TESTS_ONLY:
+            fault(where, "a wrong program, and of no call")
+        edits.setdefault(crate, {})[path.stem] = Edit(kinds, calls, [f for f in before if f.parts[0] == "specs"])
     return edits
 
 
-def check_counts(edits, promises):
-    """The numbers of edits of each kind that docs/PROMISES.md tells."""
-    kinds = [k for of_crate in edits.values() for k in of_crate.values()]
-    both = sum("code" in k and "definition" in k for k in kinds)
-    definitions = sum("definition" in k for k in kinds) - both
-    contracts = sum("contract" in k for k in kinds)
-    true = f"Of all {len(kinds)} edits {sum(map(is_program, kinds))} are such; {definitions} change a definition, {both} both, {contracts} a contract."
-    if true not in promises:
-        fault("docs/PROMISES.md", f"does not say: {true}")
-
-
-def check_wrong_programs(calls, edits, promises):
-    """PROMISES, "Two wrong programs for every call": a row for each public call, with two edits of the code at least that leave contracts and
-    definitions as they are. An edit may carry a walk by hand along to the code that it changes."""
-    rows = dict(re.findall(r"^\| `([\w:]+)` \| (.*) \|$", promises.partition("## Two wrong programs")[2].partition("\n## ")[0], re.M))
+def page(calls, edits):
+    """docs/WRONG-PROGRAMS.md: how many edits there are, and each under the call, or the file of definitions, that it makes wrong."""
+    every = [(crate, name, e) for crate, of_crate in edits.items() for name, e in of_crate.items()]
+    both = sum("code" in e.kinds and "definition" in e.kinds for _, _, e in every)
+    definitions = sum("definition" in e.kinds for _, _, e in every) - both
+    contracts = sum("contract" in e.kinds for _, _, e in every)
+    title = lambda crate, name, own: f"`{name}`" if crate == own else f"`{crate}/{name}`"
+    lines = [
+        "# Wrong programs and wrong definitions",
+        "",
+        "Each name is an edit, `crates/NAME/must-fail/EDIT.edit`. The gate makes it in a copy of its crate, and the prover must refuse the crate, because a fact no longer holds (`tests/edits.py` reads the log).",
+        "",
+        f"There are {len(every)} edits. {sum(is_program(e.kinds) for _, _, e in every)} are wrong programs: they change code and leave every contract and definition as it is. {definitions} change a definition, {both} both, {contracts} a contract.",
+        "",
+        "This page is written by `tests/audit.py --page`, and the audit fails where it is not what the edits say.",
+        "",
+        "## Wrong programs",
+        "Every public call has two at least. An edit of another crate is named with it.",
+        "",
+        "| call | wrong programs |",
+        "|---|---|",
+    ]
     for call in calls:
-        crate = call.name.split("::")[0]
-        if crate in TESTS_ONLY:
+        own = call.name.split("::")[0]
+        of_call = [title(crate, name, own) for crate, name, e in every if call.name in e.calls]
+        if of_call:
+            lines.append(f"| `{call.name}` | {', '.join(of_call)} |")
+    lines += ["", "## Wrong definitions", "Each makes a theorem false, or a contract of the code below it.", "", "| file | edits |", "|---|---|"]
+    files = {}
+    for crate, name, e in every:
+        for file in e.files:
+            files.setdefault(f"crates/{crate}/{file}", []).append(f"`{name}`")
+    lines += [f"| `{file}` | {', '.join(names)} |" for file, names in sorted(files.items())]
+    return "\n".join(lines) + "\n"
+
+
+def check_wrong_programs(calls, edits):
+    """Two edits of the code at least for each public call, which leave contracts and definitions as they are. An edit may carry a walk by hand
+    along to the code that it changes."""
+    for call in calls:
+        if call.name.split("::")[0] in TESTS_ONLY:
             continue
-        programs = 0
-        for n in set(re.findall(r"`([\w/]+)`", rows.get(call.name, ""))):
-            where, _, edit = n.rpartition("/")
-            kinds = edits.get(where or crate, {}).get(edit)
-            if kinds is None:
-                fault(call.name, f"no such edit: {n}")
-            elif is_program(kinds):
-                programs += 1
+        programs = sum(call.name in e.calls and is_program(e.kinds) for of_crate in edits.values() for e in of_crate.values())
         if programs < 2:
-            fault(call.name, f"has {programs} wrong programs in docs/PROMISES.md")
-    for name in rows:
-        if name not in {c.name for c in calls}:
-            fault("docs/PROMISES.md", f"no such public call: {name}")
+            fault(call.name, f"has {programs} wrong programs")
+    paper = ROOT / "docs" / "WRONG-PROGRAMS.md"
+    if not paper.exists() or paper.read_text() != page(calls, edits):
+        fault(paper.relative_to(ROOT), "is not what the edits say: tests/audit.py --page writes it")
+
+
+def theorems():
+    """(name, file, line, statement) of every theorem, in a proofs file, that docs/PROMISES.md names."""
+    text = re.sub(r"`NAME[^`]*`", "", (ROOT / "docs" / "PROMISES.md").read_text())  # how a row is to be read
+    seen = []
+    for crate, file, name in re.findall(r"`(\w+)/(\w+): ([\w-]+)`", text):
+        if (crate, file, name) in seen:
+            continue
+        seen.append((crate, file, name))
+        path = ROOT / "crates" / crate / "proofs" / f"{file}.antt"
+        lines = path.read_text().splitlines() if path.exists() else []
+        for i, line in enumerate(lines):
+            if re.match(rf"\s*(?:unfoldable |abbrev )?(?:pub )?{re.escape(name)} :", line):
+                end = i + 1
+                while end < len(lines) and not re.match(rf"\s*{re.escape(name)}(?![\w-])|\s*unfolding\b|\s*$", lines[end]):
+                    end += 1
+                around = [m for m in lines[:i] if re.match(r"module _ ", m)][-1:] if line.startswith(" ") else []
+                yield name, path.relative_to(ROOT), i + 1, "\n".join(around + lines[i:end])
+                break
+        else:
+            fault("docs/PROMISES.md", f"{crate}/{file}: {name} is not stated there")
 
 
 def check_papers():
@@ -609,7 +661,7 @@ def read_all():
     return every
 
 
-def audit(listed=False):
+def audit(listed=False, write=False):
     """One line that tells what was read; what is wrong is in `faults`."""
     faults.clear()
     check_forms()
@@ -633,19 +685,23 @@ def audit(listed=False):
         check_meaning(call)
     check_names()
     check_divisions()
-    promises = (ROOT / "docs" / "PROMISES.md").read_text()
-    edits = check_edits(promises)
-    check_counts(edits, promises)
-    check_wrong_programs(calls, edits, promises)
+    edits = check_edits({c.name for c in calls})
+    if write:
+        (ROOT / "docs" / "WRONG-PROGRAMS.md").write_text(page(calls, edits))
+    check_wrong_programs(calls, edits)
     check_papers()
+    stated = list(theorems())
     check_trust()
-    kinds = [k for of_crate in edits.values() for k in of_crate.values()]
+    kinds = [e.kinds for of_crate in edits.values() for e in of_crate.values()]
     programs = sum(map(is_program, kinds))
-    return f"{len(calls)} public calls of {len(every)} functions, {len(kinds)} must-fail edits ({programs} wrong programs), {len(faults)} faults"
+    return f"{len(calls)} public calls of {len(every)} functions, {len(kinds)} must-fail edits ({programs} wrong programs), {len(stated)} theorems promised, {len(faults)} faults"
 
 
 def main():
-    counts = audit("--list" in sys.argv[1:])
+    counts = audit("--list" in sys.argv[1:], "--page" in sys.argv[1:])
+    if "--theorems" in sys.argv[1:]:
+        for name, path, line, statement in theorems():
+            print(f"{path}:{line}\n{statement}\n")
     for f in faults:
         print(f"audit: {f}", file=sys.stderr)
     print(f"audit: {counts}")

@@ -84,11 +84,14 @@ CASES = [
     ("its text stands 0 times", (EDIT, "old: ", "old: not there ")),
     ("a line of no known kind", (EDIT, "old: field::add(x, x)\n", "old: field::add(x, x)\n}\n")),
     ("a line of no known kind: old: ", (EDIT, "old: field::add(x, x)\n", "old: field::add(x, x)\nold: field::add(x, x)\n")),
-    ("fold::scale: has 0 wrong programs", ("docs/PROMISES.md", "| `fold::scale` |", "| `fold::scales` |")),
+    ("a wrong program, and of no call", (EDIT, "# of fold::scale\n", "")),
+    ("is of fold::scales, which is no public call", (EDIT, "# of fold::scale\n", "# of fold::scales\n")),
+    ("fold::scale: has 1 wrong programs", (EDIT, "# of fold::scale\n", "# of fold::folded\n")),
     ("fold::scale: has 1 wrong programs", (EDIT, TWICE, "old: ⌜ r ≡ spec.scale x ⌝\nnew: ⌜ r ≡ x ⌝")),
     ("fold::scale: has 1 wrong programs", (EDIT, "file: ", "file: specs/Fold.antt\nold: -- 2·x\nnew: -- x·2\nfile: ")),
     ("changes neither code nor a statement", (EDIT, TWICE, "old: // What the scale times\nnew: // What the scale")),
-    ("docs/PROMISES.md: does not say: Of all", ("docs/PROMISES.md", "(Of all 3", "(Of all 9")),
+    ("docs/WRONG-PROGRAMS.md: is not what the edits say", ("docs/WRONG-PROGRAMS.md", "There are ", "There are 9")),
+    ("docs/WRONG-PROGRAMS.md: is not what the edits say", ("crates/fold/must-fail/one_more.edit", None, "# of fold::scale\nfile: src/lib.rt\n" + TWICE + "\n")),
     ("fold/FoldLaws has no fold-low", ("docs/PROMISES.md", "FoldLaws: fold-law`", "FoldLaws: fold-low`")),
 ]
 

@@ -20,7 +20,7 @@ FOLLOWS = re.compile(r"was not admitted")
 # said of a proof that does not fit the code or the definitions any more
 MISFIT = re.compile(
     r"can be named from here|has no field|no occurrence of|is not in scope|is no module|no module is found|has no constructor|"
-    r"has no implicit argument|has no further|is no function of|names nothing|takes no argument|too many arguments|this pattern needs|replace that `_`|expected type `tie\.Need-"
+    r"has no implicit argument|has no further|is no function of|names nothing|takes no argument|too many arguments|this pattern needs|this λ has \d+ binders|on the face `|replace that `_`|expected type `tie\.Need-"
 )
 WALKS = {"walk"}  # the declaration that follows the code step by step, in a proof by hand: an error in it is one about the code's shape
 NOTE = re.compile(r"^note: \S+:\d+:\d+: it is not proved that ")
