@@ -78,7 +78,7 @@ pub unsafe extern "C" fn binding_in_pieces(
 
 fn fed(params: Params, context: Digest, proof: &[u8], size: usize) -> Result<Accepted, Refusal> {
     let Params { n, b, k, q } = params;
-    let mut reader = Reader::open(phieulakhon::Params { n, b, k, q }, Context(context))?;
+    let mut reader = Reader::open(phieulakhon::Params::new(n, b, k, q), Context(context))?;
     for piece in proof.chunks(size) {
         reader.feed(piece)?;
     }

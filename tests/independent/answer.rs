@@ -51,11 +51,17 @@ impl Answer {
 #[derive(Default)]
 pub struct Counts {
     pub of_number: BTreeMap<u8, usize>,
+    /// How many of them were decided in a query after the first.
+    pub later: BTreeMap<u8, usize>,
 }
 
 impl Counts {
     pub fn add(&mut self, number: u8) {
         *self.of_number.entry(number).or_default() += 1;
+    }
+
+    pub fn add_later(&mut self, number: u8) {
+        *self.later.entry(number).or_default() += 1;
     }
 }
 
@@ -65,6 +71,9 @@ impl fmt::Display for Counts {
         write!(f, "answers: {sum}")?;
         for (number, count) in &self.of_number {
             write!(f, "\n  number {number}: {count}")?;
+            if let Some(later) = self.later.get(number) {
+                write!(f, ", {later} after the first query")?;
+            }
         }
         Ok(())
     }

@@ -763,6 +763,9 @@ impl Verdicts {
         let Some((params, context, proof)) = job::parts(job) else {
             return;
         };
+        if (22..=25).contains(&ours.number) && ours.place as usize > params.opening_offset(1, 0) {
+            self.counts.add_later(ours.number);
+        }
         self.whole
             .case(ours, ffi::verdict(params, context, proof), &inputs);
         let theirs = ffi::verdict_in_pieces(params, context, proof, size);

@@ -25,21 +25,69 @@ pub struct Case {
 }
 
 /// Writes DIRECTORY/data/jobs and DIRECTORY/stdout, the jobs and their lines,
-/// and DIRECTORY/cases.txt, what each is.
+/// DIRECTORY/cases.txt, what each is, and DIRECTORY/corpus.json, all of it for
+/// programs that know nothing of this repository.
 pub fn write(directory: &Path) -> io::Result<Counts> {
     let data = directory.join("data");
     fs::create_dir_all(&data)?;
     let cases = cases();
     let mut text = String::new();
+    let mut objects = Vec::new();
     for (index, case) in cases.iter().enumerate() {
         let answer = job::answer(&case.job);
         assert_eq!(answer.number, case.number, "{}", case.name);
         let line = job::line_of(answer);
         text += &format!("{} {} ({line}): {}\n", index + 1, case.name, case.reason);
+        objects.push(object(case, &line));
     }
     fs::write(directory.join("cases.txt"), text)?;
+    fs::write(directory.join("corpus.json"), json(&objects))?;
     let jobs = cases.into_iter().map(|case| case.job);
     write_jobs(jobs, &data.join("jobs"), &directory.join("stdout"))
+}
+
+/// The number of the file format that the cases are of: 1, and one more for each
+/// request that changed what a file's bytes are or mean.
+const FORMAT: u32 = 2;
+const ABOUT: &str = "FRI proofs and the line that a verifier has to print for each. head: n, b, k, q and 32 bytes of context; proof: the file that is judged for them. docs/FORMAT.md has the rules, docs/REFUSALS.md the numbers.";
+
+fn json(objects: &[String]) -> String {
+    let about = quoted(ABOUT);
+    let cases = objects.join(",\n");
+    format!(
+        "{{\n  \"about\": {about},\n  \"format\": {FORMAT},\n  \"cases\": [\n{cases}\n  ]\n}}\n"
+    )
+}
+
+/// A case as a line of JSON. Where a job is too short for a head, all of it is
+/// the head.
+fn object(case: &Case, line: &str) -> String {
+    let (head, proof) = case.job.split_at(case.job.len().min(job::HEADER));
+    let fields = [
+        ("name", quoted(&case.name)),
+        ("reason", quoted(&case.reason)),
+        ("head", quoted(&hex(head))),
+        ("proof", quoted(&hex(proof))),
+        ("line", quoted(line)),
+    ];
+    let fields = fields.map(|(name, value)| format!("\"{name}\": {value}"));
+    format!("    {{{}}}", fields.join(", "))
+}
+
+fn quoted(text: &str) -> String {
+    let escaped: String = text
+        .chars()
+        .map(|c| match c {
+            '"' | '\\' => format!("\\{c}"),
+            c if c < ' ' => format!("\\u{:04x}", c as u32),
+            c => c.to_string(),
+        })
+        .collect();
+    format!("\"{escaped}\"")
+}
+
+fn hex(bytes: &[u8]) -> String {
+    bytes.iter().map(|byte| format!("{byte:02x}")).collect()
 }
 
 /// Writes jobs, each after its length as 4 bytes, low byte first, and the line

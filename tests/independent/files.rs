@@ -3,17 +3,18 @@
 use crate::field::P;
 use crate::layout::{self, Item, Kind, ALL_KINDS};
 use crate::params::Params;
-use crate::proof::{build, build_altered};
+use crate::proof::Forger;
 use crate::rng::Rng;
 use crate::sha256::Digest;
 
 type Source = fn(&mut Rng, Params, &Digest) -> Vec<u8>;
 type Damage = fn(&mut Rng, Params, &mut Vec<u8>);
 
-const SOURCES: [(usize, Source); 8] = [
-    (76, built),
+const SOURCES: [(usize, Source); 9] = [
+    (68, built),
     (4, spliced),
     (7, wrong_numbers_committed),
+    (8, one_wrong_value_in_the_last_layer),
     (4, same_numbers_modulo_p_committed),
     (4, of_another_context),
     (2, of_other_parameters),
@@ -63,9 +64,21 @@ pub fn valid_params(rng: &mut Rng, n: usize, most_queries: usize) -> Params {
     }
 }
 
+/// Up to this n a polynomial may have every coefficient; above it is one in a
+/// power of x, so that no more than 2^10 points of a layer differ.
+const DENSE: u8 = 12;
+
+/// In which power of x, as its log, the polynomial of a file is.
+fn any_spread(rng: &mut Rng, params: Params) -> u8 {
+    match params.n {
+        n if n <= DENSE => 0,
+        n => rng.between(n as usize - 10, (n - params.b.max(6)) as usize) as u8,
+    }
+}
+
 /// A polynomial of any length, none and the full one more often than others.
-pub fn polynomial(rng: &mut Rng, params: Params) -> Vec<u32> {
-    let full_size = 1 << (params.n - params.b);
+pub fn polynomial(rng: &mut Rng, params: Params, spread: u8) -> Vec<u32> {
+    let full_size = 1 << (params.n - params.b - spread);
     let count = match rng.below(8) {
         0 => 0,
         1 => 1,
@@ -83,7 +96,24 @@ pub fn polynomial(rng: &mut Rng, params: Params) -> Vec<u32> {
 }
 
 fn built(rng: &mut Rng, params: Params, context: &Digest) -> Vec<u8> {
-    build(params, context, &polynomial(rng, params))
+    build_altered(rng, params, context, |_, _, _| {})
+}
+
+fn build_altered(
+    rng: &mut Rng,
+    params: Params,
+    context: &Digest,
+    mut alter: impl FnMut(&mut Rng, u8, &mut [u32]),
+) -> Vec<u8> {
+    let spread = any_spread(rng, params);
+    let polynomial = polynomial(rng, params, spread);
+    let forger = Forger {
+        spread,
+        ..Forger::default()
+    };
+    forger.build(params, context, &polynomial, |layer, numbers| {
+        alter(rng, layer, numbers)
+    })
 }
 
 /// The parts of two proofs in one file, joined at the end of an item or
@@ -108,6 +138,17 @@ fn wrong_numbers_committed(rng: &mut Rng, params: Params, context: &Digest) -> V
     altered(rng, params, context, |rng, _| rng.element())
 }
 
+/// One value of the last layer is wrong: 24 or 25 at the first query that
+/// opens it, which is seldom the first of all.
+fn one_wrong_value_in_the_last_layer(rng: &mut Rng, params: Params, context: &Digest) -> Vec<u8> {
+    build_altered(rng, params, context, |rng, layer, numbers| {
+        if layer + 1 == params.k {
+            let index = rng.below(numbers.len());
+            numbers[index] = rng.element();
+        }
+    })
+}
+
 /// Everything would be right if numbers were reduced modulo p, but some are
 /// not below p.
 fn same_numbers_modulo_p_committed(rng: &mut Rng, params: Params, context: &Digest) -> Vec<u8> {
@@ -120,9 +161,8 @@ fn altered(
     context: &Digest,
     change: fn(&mut Rng, u32) -> u32,
 ) -> Vec<u8> {
-    let polynomial = polynomial(rng, params);
     let altered_layer = rng.between(0, params.k as usize);
-    build_altered(params, context, &polynomial, |layer, numbers| {
+    build_altered(rng, params, context, |rng, layer, numbers| {
         if layer as usize == altered_layer {
             let one_in = rng.pick(&[1, 2, numbers.len()]);
             for number in numbers {
@@ -309,6 +349,7 @@ fn randomize_rest(rng: &mut Rng, _: Params, bytes: &mut Vec<u8>) {
 mod tests {
     use super::*;
     use crate::judge::verdict;
+    use crate::proof::build;
 
     fn numbers_of(source: Source, rounds: usize) -> Vec<u8> {
         let mut rng = Rng::new(31);
@@ -332,6 +373,8 @@ mod tests {
         // Committed numbers that are wrong leave every path right. They may
         // lie where no query looks.
         assert_eq!(numbers_of(wrong_numbers_committed, 400), [1, 24, 25]);
+        let numbers = numbers_of(one_wrong_value_in_the_last_layer, 400);
+        assert_eq!(numbers, [1, 24, 25]);
         assert_eq!(numbers_of(same_numbers_modulo_p_committed, 400), [1, 22]);
         let numbers = numbers_of(of_another_context, 400);
         assert!(numbers
@@ -347,6 +390,19 @@ mod tests {
         assert!(numbers.contains(&1) && numbers.contains(&23));
         assert_eq!(numbers_of(empty, 20), [26]);
         assert!(numbers_of(random_bytes, 200).contains(&20));
+    }
+
+    #[test]
+    fn proofs_of_many_points_are_accepted_and_refused() {
+        let mut rng = Rng::new(36);
+        for n in 13..=20 {
+            let params = valid_params(&mut rng, n, 8);
+            let context = rng.digest();
+            let bytes = built(&mut rng, params, &context);
+            assert_eq!(verdict(params, &context, &bytes).number, 1);
+            let bytes = wrong_numbers_committed(&mut rng, params, &context);
+            assert!([1, 24, 25].contains(&verdict(params, &context, &bytes).number));
+        }
     }
 
     /// Which items of a proof differ after the damage, and the lengths.

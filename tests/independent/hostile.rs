@@ -18,7 +18,8 @@ pub fn job(seed: u64) -> Vec<u8> {
     let context = rng.digest();
     let (n, most_queries) = match rng.below(400) {
         0 => (rng.between(8, 12), 64),
-        _ => (rng.between(2, 7), rng.weighted(&[(6, 2), (3, 5), (1, 20)])),
+        1 | 2 => (rng.between(13, 20), 8),
+        _ => (rng.between(2, 7), rng.weighted(&[(3, 2), (4, 6), (3, 24)])),
     };
     let file_params = valid_params(&mut rng, n, most_queries);
     let file = any_file(&mut rng, file_params, &context);

@@ -5,10 +5,10 @@ use std::io;
 use std::path::Path;
 
 use crate::answer::{Answer, ACCEPTED, JOB_TOO_SHORT};
+use crate::field;
 use crate::judge::verdict;
 use crate::layout::{items, Item, Kind};
 use crate::params::Params;
-use crate::field;
 use crate::proof::build_altered;
 use crate::rng::Rng;
 use crate::sha256::Digest;
@@ -86,7 +86,9 @@ pub fn examples() -> Vec<(&'static str, Vec<u8>)> {
     let one_more = |layer: u8| {
         move |j: u8, numbers: &mut [u32]| {
             if j == layer {
-                numbers.iter_mut().for_each(|number| *number = field::add(*number, 1));
+                numbers
+                    .iter_mut()
+                    .for_each(|number| *number = field::add(*number, 1));
             }
         }
     };

@@ -40,21 +40,33 @@ pub fn climb(leaf: &Digest, index: usize, siblings: &[u8]) -> Digest {
     digest
 }
 
-/// All levels of a tree, leaves first, root last.
+/// All levels of a tree, leaves first, root last. A level whose digests repeat
+/// has one period of them.
 pub struct Tree {
     levels: Vec<Vec<Digest>>,
 }
 
 impl Tree {
+    #[cfg(test)]
     pub fn new(leaves: Vec<Digest>) -> Tree {
-        assert!(leaves.len().is_power_of_two());
+        let height = leaves.len().ilog2() as usize;
+        Tree::repeating(leaves, height)
+    }
+
+    /// The tree with 2^height leaves that are these again and again: above the
+    /// height of one period all digests of a level are equal.
+    pub fn repeating(leaves: Vec<Digest>, height: usize) -> Tree {
+        assert!(leaves.len().is_power_of_two() && leaves.len() <= 1 << height);
         let mut levels = vec![leaves];
-        while levels[levels.len() - 1].len() > 1 {
+        while levels.len() <= height {
             let below = &levels[levels.len() - 1];
-            let above = below
-                .chunks_exact(2)
-                .map(|pair| node(&pair[0], &pair[1]))
-                .collect();
+            let above = match below[..] {
+                [every] => vec![node(&every, &every)],
+                _ => below
+                    .chunks_exact(2)
+                    .map(|pair| node(&pair[0], &pair[1]))
+                    .collect(),
+            };
             levels.push(above);
         }
         Tree { levels }
@@ -70,7 +82,7 @@ impl Tree {
         below_root
             .iter()
             .enumerate()
-            .map(|(height, level)| level[(leaf >> height) ^ 1])
+            .map(|(height, level)| level[((leaf >> height) ^ 1) % level.len()])
             .collect()
     }
 }
@@ -86,6 +98,21 @@ mod tests {
         assert_eq!(node(&[7; 32], &[9; 32]), sha256(&joined));
         assert_eq!(parent(&[7; 32], 4, &[9; 32]), node(&[7; 32], &[9; 32]));
         assert_eq!(parent(&[7; 32], 5, &[9; 32]), node(&[9; 32], &[7; 32]));
+    }
+
+    #[test]
+    fn a_repeating_tree_is_the_tree_with_all_its_leaves() {
+        for period in 0..4 {
+            let leaves: Vec<Digest> = (0..1 << period).map(|m| leaf(m, m + 1)).collect();
+            for height in period..6 {
+                let all = leaves.repeat(1 << (height - period));
+                let (short, whole) = (Tree::repeating(leaves.clone(), height), Tree::new(all));
+                assert_eq!(short.root(), whole.root());
+                for index in 0..1 << height {
+                    assert_eq!(short.path(index), whole.path(index));
+                }
+            }
+        }
     }
 
     #[test]

@@ -8,23 +8,32 @@ use crate::params::Params;
 use crate::sha256::Digest;
 use crate::transcript::Transcript;
 
-/// One layer: the values at all its points, and the tree over their pairs.
+/// One layer: the values at its points, one period of them where they repeat,
+/// and the tree over their pairs.
 pub struct Layer {
     values: Vec<u32>,
+    half: usize,
     tree: Tree,
 }
 
 impl Layer {
+    #[cfg(test)]
     pub fn new(values: Vec<u32>) -> Layer {
-        let (first, second) = values.split_at(values.len() / 2);
-        let tree = Tree::new(
-            first
-                .iter()
-                .zip(second)
-                .map(|(&a, &c)| leaf(a, c))
-                .collect(),
-        );
-        Layer { values, tree }
+        let log_size = values.len().ilog2() as u8;
+        Layer::repeating(values, log_size)
+    }
+
+    /// The layer of 2^log_size points whose values are these again and again.
+    pub fn repeating(values: Vec<u32>, log_size: u8) -> Layer {
+        let half = 1 << (log_size - 1);
+        let pair = |m| leaf(values[m], values[(m + half) % values.len()]);
+        let leaves = (0..half.min(values.len())).map(pair).collect();
+        let tree = Tree::repeating(leaves, log_size as usize - 1);
+        Layer { values, half, tree }
+    }
+
+    fn value(&self, index: usize) -> u32 {
+        self.values[index % self.values.len()]
     }
 }
 
@@ -55,6 +64,10 @@ pub struct Forger {
     pub narrow_challenges: bool,
     /// Opens this leaf of layer 0 for every query, whichever is drawn.
     pub leaf: Option<u32>,
+    /// Takes the polynomial in x^(2^spread). The values of the first layers then
+    /// repeat and only one period of them is ever made, so that a proof of 2^20
+    /// points and more takes as long as one of 2^(n − spread).
+    pub spread: u8,
 }
 
 impl Forger {
@@ -66,7 +79,7 @@ impl Forger {
         mut alter: impl FnMut(u8, &mut [u32]),
     ) -> Vec<u8> {
         assert!(params.valid(), "parameters not valid");
-        let full_size = 1 << (params.n - params.b);
+        let full_size = 1 << (params.n - params.b - self.spread);
         assert!(polynomial.len() <= full_size, "too many coefficients");
         assert!(polynomial.iter().all(|&coefficient| coefficient < P));
 
@@ -79,18 +92,26 @@ impl Forger {
         let mut transcript = Transcript::start(params, context);
         let mut layers = Vec::new();
         for j in 0..params.k {
-            let mut values = layer_values(&polynomial, params.n, j);
+            // x^(2^spread), at a point of layer j, is a point of layer j + spread.
+            let spread = self.spread.saturating_sub(j);
+            let mut values = layer_values(&polynomial, params.n, j + spread);
             alter(j, &mut values);
-            let layer = Layer::new(values);
+            let layer = Layer::repeating(values, params.n - j);
             let early_challenge = challenge_of(&transcript);
             transcript.absorb_root(&layer.tree.root());
             let challenge = match self.challenges_first {
                 true => early_challenge,
                 false => challenge_of(&transcript),
             };
-            polynomial = fold_coefficients(&polynomial, challenge);
+            // Without odd powers the fold is the even part: the same
+            // coefficients, in a power half as high.
+            if spread == 0 {
+                polynomial = fold_coefficients(&polynomial, challenge);
+            }
             layers.push(layer);
         }
+        let spread = self.spread.saturating_sub(params.k);
+        let mut polynomial = spread_out(&polynomial, spread);
         alter(params.k, &mut polynomial);
         self.assemble(params, transcript, &layers, &polynomial)
     }
@@ -136,10 +157,18 @@ impl Forger {
     }
 }
 
+/// The coefficients of a polynomial in x^(2^spread), as one in x.
+pub fn spread_out(coefficients: &[u32], spread: u8) -> Vec<u32> {
+    let mut all = vec![0; coefficients.len() << spread];
+    for (i, &coefficient) in coefficients.iter().enumerate() {
+        all[i << spread] = coefficient;
+    }
+    all
+}
+
 fn push_opening(bytes: &mut Vec<u8>, layer: &Layer, leaf: usize) {
-    let half = layer.values.len() / 2;
-    push_number(bytes, layer.values[leaf]);
-    push_number(bytes, layer.values[leaf + half]);
+    push_number(bytes, layer.value(leaf));
+    push_number(bytes, layer.value(leaf + layer.half));
     for sibling in layer.tree.path(leaf) {
         bytes.extend(sibling);
     }
@@ -237,6 +266,24 @@ mod tests {
         polynomial.resize(16, 0);
         assert_eq!(short, build(params, &context, &polynomial));
         assert_eq!(build(params, &context, &[]), build(params, &context, &[0]));
+    }
+
+    #[test]
+    fn a_spread_polynomial_is_the_one_with_all_its_coefficients() {
+        let mut rng = Rng::new(8);
+        for (n, b, k, q) in [(6, 1, 2, 5), (7, 2, 5, 9), (9, 3, 1, 4), (8, 1, 6, 3)] {
+            let (params, context) = (Params::new(n, b, k, q), rng.digest());
+            for spread in 0..=n - b {
+                let polynomial = rng.elements(1 << (n - b - spread));
+                let forger = Forger {
+                    spread,
+                    ..Forger::default()
+                };
+                let sparse = forger.build(params, &context, &polynomial, |_, _| {});
+                let whole = build(params, &context, &spread_out(&polynomial, spread));
+                assert_eq!(sparse, whole);
+            }
+        }
     }
 
     #[test]

@@ -173,7 +173,7 @@ pub fn polynomial_of_length(rng: &mut Rng, params: Params, length: usize) -> Vec
 
 /// Any polynomial, with all its coefficients.
 pub fn any_polynomial(rng: &mut Rng, params: Params) -> Vec<u32> {
-    let mut coefficients = files::polynomial(rng, params);
+    let mut coefficients = files::polynomial(rng, params, 0);
     coefficients.resize(coefficient_count(params), 0);
     coefficients
 }

@@ -61,12 +61,7 @@ fn compare(job: &[u8], choice: usize) -> Answer {
     let Some((params, context, proof)) = job::parts(job) else {
         return answer;
     };
-    let theirs = phieulakhon::Params {
-        n: params.n,
-        b: params.b,
-        k: params.k,
-        q: params.q,
-    };
+    let theirs = phieulakhon::Params::new(params.n, params.b, params.k, params.q);
     let length = params.valid().then(|| params.file_length());
     same("the length", length, theirs.file_length());
     let whole = verdict(theirs, Context(*context), proof);
@@ -201,6 +196,7 @@ fn follow(recipe: &mut Recipe) -> Vec<u8> {
     let polynomial: Vec<u32> = (0..count).map(|_| recipe.element()).collect();
     let challenges = recipe.byte();
     let forger = Forger {
+        spread: 0,
         challenges_first: matches!(challenges, 1 | 3),
         narrow_challenges: matches!(challenges, 2 | 3),
         leaf: match recipe.byte() {
