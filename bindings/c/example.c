@@ -32,7 +32,7 @@ int main(void) {
         perror("standard input");
         return 2;
     }
-    if (answer.number == PHIEULAKHON_ACCEPTED)
+    if (phieulakhon_is_accepted(answer))
         printf("accepted %u\n", (unsigned)answer.place);
     else
         printf("refused %u at %u\n", (unsigned)answer.number, (unsigned)answer.place);

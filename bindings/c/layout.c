@@ -18,9 +18,9 @@ int main(void) {
     ROW(span, place);
     ROW(span, start);
     ROW(span, length);
-    ROW(reader, marks);
-    ROW(reader, words);
-    ROW(reader, counts);
+    ROW(reader, u8s);
+    ROW(reader, u32s);
+    ROW(reader, sizes);
     ROW(reader, item);
     ROW(reader, node);
     ROW(reader, transcript);

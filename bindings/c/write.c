@@ -13,7 +13,7 @@
 #include "phieulakhon.h"
 
 static int refused(struct phieulakhon_answer answer) {
-    fprintf(stderr, "refused %u at %u\n", (unsigned)answer.number, (unsigned)answer.place);
+    fprintf(stderr, "refused %u at %u: %s\n", (unsigned)answer.number, (unsigned)answer.place, phieulakhon_message(answer.number));
     return 1;
 }
 
@@ -46,7 +46,7 @@ int main(int argc, char **argv) {
     struct phieulakhon_answer answer = phieulakhon_write(p, context, coefficients, count, numbers, 2 * points, bytes, 64 * points, proof, length);
     if (answer.number == PHIEULAKHON_WRITTEN)
         answer = phieulakhon_verdict(p, context, proof, length);
-    if (answer.number != PHIEULAKHON_ACCEPTED)
+    if (!phieulakhon_is_accepted(answer))
         return refused(answer);
     if (fwrite(head, 1, sizeof head, stdout) < sizeof head || fwrite(proof, 1, length, stdout) < length || fflush(stdout) != 0) {
         perror("standard output");

@@ -17,14 +17,6 @@ use std::process::ExitCode;
 
 const USAGE: &str = "usage: write N B K Q [CONTEXT] < coefficients > job";
 
-fn bytes_of(digits: &str) -> Option<[u8; 32]> {
-    if digits.len() != 64 || !digits.bytes().all(|digit| digit.is_ascii_hexdigit()) {
-        return None;
-    }
-    let byte = |i: usize| u8::from_str_radix(&digits[2 * i..][..2], 16).expect("two digits");
-    Some(std::array::from_fn(byte))
-}
-
 fn job() -> Result<Vec<u8>, Box<dyn Error>> {
     let arguments: Vec<String> = env::args().skip(1).collect();
     let [n, b, k, q, rest @ ..] = &arguments[..] else {
@@ -32,16 +24,16 @@ fn job() -> Result<Vec<u8>, Box<dyn Error>> {
     };
     let [n, b, k, q] = [n.parse()?, b.parse()?, k.parse()?, q.parse()?];
     let context = match rest {
-        [] => [0; 32],
-        [digits] => bytes_of(digits).ok_or(USAGE)?,
+        [] => Context([0; 32]),
+        [digits] => digits.parse()?,
         _ => return Err(USAGE.into()),
     };
     let coefficients = io::read_to_string(io::stdin())?
         .split_whitespace()
         .map(str::parse)
         .collect::<Result<Vec<u32>, _>>()?;
-    let proof = write_proof(Params { n, b, k, q }, Context(context), &coefficients)?;
-    Ok([&[n, b, k, q], &context[..], &proof].concat())
+    let proof = write_proof(Params::new(n, b, k, q), context, &coefficients)?;
+    Ok([&[n, b, k, q], &context.0[..], &proof].concat())
 }
 
 fn main() -> ExitCode {

@@ -1,30 +1,104 @@
 //! What the calls answer, as values that cannot be mixed up.
 
 use crate::ffi::Answer;
+use crate::{Context, Params};
 use std::error::Error;
-use std::fmt;
+use std::{fmt, io};
 
 const OPEN: u8 = 0;
 const ACCEPTED: u8 = 1;
 const WRITTEN: u8 = 0;
 
-/// The file is a proof that holds, for the parameters and the context that it was judged for. Only
-/// an end call and a verdict make one.
+/// What a number says, word for word as `phieulakhon_message` of the C header says it.
+pub(crate) fn message(number: u8) -> &'static str {
+    match number {
+        0 => "no fault so far, and no verdict",
+        1 => "accepted",
+        10 => "the parameters are not valid",
+        11 => "the reader is closed",
+        12 => "the job is shorter than its head",
+        16 => "a file of this length has no such opening",
+        20 => "a section's count is not the one that the parameters call for",
+        21 => "the file was made for other parameters",
+        22 => "a number is not below 3221225473",
+        23 => "a Merkle path does not end at its layer's root",
+        24 => "an opened value is not the one folded from the layer before",
+        25 => "the last folded value is not the final polynomial's",
+        26 => "the file ends too soon",
+        27 => "the file has a byte too many",
+        30 => "there are not exactly 2^(n-b) coefficients",
+        31 => "the scratch is too short",
+        32 => "the output is too short",
+        _ => "not a number of the table",
+    }
+}
+
+/// The file is a proof that holds, for these parameters and this context. Only an end call and a
+/// verdict make one, each of what it has judged; so what must not happen without a proof can ask for
+/// one, and for which batch it is:
+///
+/// ```
+/// use phieulakhon::{verdict, write_proof, Accepted, Context, Params};
+///
+/// struct Batch { params: Params, context: Context, table: Vec<u8> }
+///
+/// fn purge(batch: &mut Batch, accepted: &Accepted) {
+///     assert!(accepted.is_for(batch.params, batch.context), "the proof is another batch's");
+///     batch.table.clear();
+/// }
+///
+/// let params = Params::new(4, 2, 1, 2);
+/// let context = Context([7; 32]);
+/// let proof = write_proof(params, context, &[2, 3, 0, 1])?;
+/// let mut batch = Batch { params, context, table: vec![1, 2, 3] };
+/// purge(&mut batch, &verdict(params, context, &proof)?);
+/// # Ok::<(), Box<dyn std::error::Error>>(())
+/// ```
+///
+/// Nothing else makes one, and none can be copied:
 ///
 /// ```compile_fail,E0451
-/// let forged = phieulakhon::Accepted { length: 260 };
+/// # use phieulakhon::{Accepted, Context, Params};
+/// # let (params, context) = (Params::new(4, 2, 1, 2), Context([0; 32]));
+/// let forged = Accepted { params, context, length: 260 };
 /// ```
 #[must_use = "whether the proof was accepted is the answer"]
-#[derive(Clone, Copy, Debug, PartialEq, Eq, Hash)]
+#[derive(Debug, PartialEq, Eq)]
 pub struct Accepted {
+    params: Params,
+    context: Context,
     length: u32,
 }
 
 impl Accepted {
+    /// The parameters that the file was judged for.
+    #[must_use]
+    pub fn params(&self) -> Params {
+        self.params
+    }
+
+    /// The context that the file was judged for: which batch it is a proof of.
+    #[must_use]
+    pub fn context(&self) -> Context {
+        self.context
+    }
+
     /// The file's length.
     #[must_use]
-    pub fn length(self) -> u32 {
+    pub fn length(&self) -> u32 {
         self.length
+    }
+
+    /// Whether the file was judged for these parameters and this context.
+    #[must_use]
+    pub fn is_for(&self, params: Params, context: Context) -> bool {
+        self.params == params && self.context == context
+    }
+
+    /// The line that the program `verify` prints, `accepted 260`.
+    #[must_use]
+    pub fn line(&self) -> String {
+        self.to_string()
     }
 }
 
@@ -37,17 +111,18 @@ impl fmt::Display for Accepted {
 /// The file is not accepted: the table's number as a case, and the place, which counts the file's
 /// bytes up to and including the one that decides.
 ///
-/// The table is part of the format, so the cases are all there are: a match need have no arm for
-/// others.
+/// Later versions of the format have further cases.
 ///
 /// ```
 /// use phieulakhon::Refusal;
 ///
 /// let refusal = Refusal::TooFewBytes { place: 0 };
 /// assert_eq!((refusal.number(), refusal.place()), (26, 0));
-/// assert_eq!(refusal.to_string(), "refused 26 at 0");
+/// assert_eq!(refusal.line(), "refused 26 at 0");
+/// assert_eq!(refusal.to_string(), "refused 26 at 0: the file ends too soon");
 /// ```
 #[must_use = "a proof that is refused must not be acted on"]
+#[non_exhaustive]
 #[derive(Clone, Copy, Debug, PartialEq, Eq, Hash)]
 pub enum Refusal {
     /// 10: the parameters are not valid, at opening.
@@ -146,29 +221,99 @@ impl Refusal {
     pub fn place(self) -> u32 {
         self.parts().1
     }
+
+    /// The rule that does not hold, in words.
+    #[must_use]
+    pub fn message(self) -> &'static str {
+        message(self.number())
+    }
+
+    /// The line that the program `verify` prints, `refused 26 at 0`.
+    #[must_use]
+    pub fn line(self) -> String {
+        format!("refused {} at {}", self.number(), self.place())
+    }
 }
 
 impl fmt::Display for Refusal {
     fn fmt(&self, f: &mut fmt::Formatter<'_>) -> fmt::Result {
-        write!(f, "refused {} at {}", self.number(), self.place())
+        write!(f, "{}: {}", self.line(), self.message())
     }
 }
 
 impl Error for Refusal {}
 
+/// Why there is no [`Accepted`]: the file was refused, or it could not be read to its end and so was
+/// not judged.
+///
+/// There is one `Result`, so that its `Ok` is nothing but an accepted proof:
+///
+/// ```
+/// use phieulakhon::{verify_reader, Context, Params, VerifyError};
+///
+/// let params = Params::new(4, 2, 1, 2);
+/// match verify_reader(std::io::empty(), params, Context([0; 32])) {
+///     Ok(accepted) => println!("{accepted}: the table may go"),
+///     Err(VerifyError::Refused(refusal)) => println!("{refusal}: the table stays"),
+///     Err(VerifyError::Io(error)) => println!("not judged, {error}: the table stays"),
+///     Err(error) => println!("{error}: the table stays"),
+/// }
+/// ```
+#[must_use = "a proof that is not accepted must not be acted on"]
+#[non_exhaustive]
+#[derive(Debug)]
+pub enum VerifyError {
+    /// The file could not be read to its end. No verdict.
+    Io(io::Error),
+    /// The file was read and is no proof that holds, for these parameters and this context.
+    Refused(Refusal),
+}
+
+impl fmt::Display for VerifyError {
+    fn fmt(&self, f: &mut fmt::Formatter<'_>) -> fmt::Result {
+        match self {
+            VerifyError::Io(error) => write!(f, "not judged: {error}"),
+            VerifyError::Refused(refusal) => refusal.fmt(f),
+        }
+    }
+}
+
+impl Error for VerifyError {
+    fn source(&self) -> Option<&(dyn Error + 'static)> {
+        match self {
+            VerifyError::Io(error) => error.source(),
+            VerifyError::Refused(_) => None,
+        }
+    }
+}
+
+impl From<io::Error> for VerifyError {
+    fn from(error: io::Error) -> VerifyError {
+        VerifyError::Io(error)
+    }
+}
+
+impl From<Refusal> for VerifyError {
+    fn from(refusal: Refusal) -> VerifyError {
+        VerifyError::Refused(refusal)
+    }
+}
+
 /// No proof was written, and no buffer was touched: the table's number as a case. The place is
 /// always 0, since there is no file.
 ///
-/// These are all the cases there are, in the order in which they are tested; the first that applies
-/// decides.
+/// The cases stand in the order in which they are tested; the first that applies decides. Later
+/// versions of the format have further ones.
 ///
 /// ```
 /// use phieulakhon::WriteRefusal;
 ///
 /// let refusal = WriteRefusal::OutputTooShort;
 /// assert_eq!(refusal.number(), 32);
-/// assert_eq!(refusal.to_string(), "refused 32 at 0");
+/// assert_eq!(refusal.line(), "refused 32 at 0");
+/// assert_eq!(refusal.to_string(), "refused 32 at 0: the output is too short");
 /// ```
+#[non_exhaustive]
 #[derive(Clone, Copy, Debug, PartialEq, Eq, Hash)]
 pub enum WriteRefusal {
     /// 10: the parameters are not valid. An answer that the writer doesn't have, which no proved
@@ -207,11 +352,23 @@ impl WriteRefusal {
             WriteRefusal::OutputTooShort => 32,
         }
     }
+
+    /// The rule that does not hold, in words.
+    #[must_use]
+    pub fn message(self) -> &'static str {
+        message(self.number())
+    }
+
+    /// The number and the place as the program `verify` would print them, `refused 32 at 0`.
+    #[must_use]
+    pub fn line(self) -> String {
+        format!("refused {} at 0", self.number())
+    }
 }
 
 impl fmt::Display for WriteRefusal {
     fn fmt(&self, f: &mut fmt::Formatter<'_>) -> fmt::Result {
-        write!(f, "refused {} at 0", self.number())
+        write!(f, "{}: {}", self.line(), self.message())
     }
 }
 
@@ -219,7 +376,7 @@ impl Error for WriteRefusal {}
 
 /// The answer to an opening or a piece: the bytes so far.
 #[inline]
-pub fn so_far(answer: Answer) -> Result<u32, Refusal> {
+pub(crate) fn so_far(answer: Answer) -> Result<u32, Refusal> {
     if answer.number == OPEN {
         Ok(answer.place)
     } else {
@@ -227,10 +384,12 @@ pub fn so_far(answer: Answer) -> Result<u32, Refusal> {
     }
 }
 
-/// The answer to an end call, or a verdict.
-pub fn ended(answer: Answer) -> Result<Accepted, Refusal> {
+/// The answer to an end call, or a verdict, on a file that was judged for these.
+pub(crate) fn ended(answer: Answer, params: Params, context: Context) -> Result<Accepted, Refusal> {
     if answer.number == ACCEPTED {
         Ok(Accepted {
+            params,
+            context,
             length: answer.place,
         })
     } else {
@@ -239,7 +398,7 @@ pub fn ended(answer: Answer) -> Result<Accepted, Refusal> {
 }
 
 /// The answer to a write: the file's length.
-pub fn written(answer: Answer) -> Result<usize, WriteRefusal> {
+pub(crate) fn written(answer: Answer) -> Result<usize, WriteRefusal> {
     if answer.number == WRITTEN {
         Ok(answer.place as usize)
     } else {
@@ -250,6 +409,10 @@ pub fn written(answer: Answer) -> Result<usize, WriteRefusal> {
 #[cfg(test)]
 mod tests {
     use super::*;
+    use crate::header;
+
+    const PARAMS: Params = Params::new(4, 2, 1, 2);
+    const CONTEXT: Context = Context([7; 32]);
 
     #[test]
     fn every_number_is_read_as_itself_or_refused() {
@@ -257,7 +420,7 @@ mod tests {
             let answer = Answer { number, place: 7 };
             let of_table = matches!(number, 10 | 11 | 16 | 20..=27);
             assert_eq!(so_far(answer).is_ok(), number == 0);
-            assert_eq!(ended(answer).is_ok(), number == 1);
+            assert_eq!(ended(answer, PARAMS, CONTEXT).is_ok(), number == 1);
             assert_eq!(
                 Refusal::of(answer).number(),
                 if of_table { number } else { 11 }
@@ -283,16 +446,47 @@ mod tests {
     }
 
     #[test]
+    fn an_acceptance_says_of_what() {
+        let answer = Answer {
+            number: 1,
+            place: 260,
+        };
+        let accepted = ended(answer, PARAMS, CONTEXT).expect("number 1");
+        assert_eq!(accepted.params(), PARAMS);
+        assert_eq!(accepted.context(), CONTEXT);
+        assert_eq!(accepted.line(), "accepted 260");
+        assert!(accepted.is_for(PARAMS, CONTEXT));
+        assert!(!accepted.is_for(Params::new(4, 2, 1, 3), CONTEXT));
+        assert!(!accepted.is_for(PARAMS, Context([8; 32])));
+    }
+
+    #[test]
     fn lines() {
-        assert_eq!(Accepted { length: 260 }.to_string(), "accepted 260");
-        assert_eq!(Refusal::ParametersNotValid.to_string(), "refused 10 at 0");
+        assert_eq!(Refusal::ParametersNotValid.line(), "refused 10 at 0");
         assert_eq!(
-            Refusal::ByteAfterTheEnd { place: 261 }.to_string(),
+            Refusal::ByteAfterTheEnd { place: 261 }.line(),
             "refused 27 at 261"
         );
         assert_eq!(
-            WriteRefusal::WrongCoefficientCount.to_string(),
+            WriteRefusal::WrongCoefficientCount.line(),
             "refused 30 at 0"
         );
+        let refused = VerifyError::from(Refusal::TooFewBytes { place: 9 });
+        assert_eq!(
+            refused.to_string(),
+            "refused 26 at 9: the file ends too soon"
+        );
+        let unread = VerifyError::from(io::Error::other("the disk is gone"));
+        assert_eq!(unread.to_string(), "not judged: the disk is gone");
+    }
+
+    /// The C header's words are these.
+    #[test]
+    fn the_messages_are_the_headers() {
+        let said = header::said("messages.c");
+        let ours: String = (0..=u8::MAX)
+            .map(|number| format!("{number} {}\n", message(number)))
+            .collect();
+        assert_eq!(ours, said);
     }
 }

@@ -15,13 +15,16 @@ pub struct Answer {
     pub place: u32,
 }
 
+/// The numbers of one byte that a reader holds: six, and the parameter bytes.
+const U8S: usize = 6 + size_of::<Params>();
+
 /// A reader between two calls: arrays of numbers, lent to each call and changed in place.
 #[repr(C)]
 #[derive(Clone)]
 pub struct Held {
-    marks: [u8; 10],
-    words: [u32; 10],
-    counts: [usize; 2],
+    u8s: [u8; U8S],
+    u32s: [u32; 10],
+    sizes: [usize; 2],
     item: [u8; 32],
     node: [u8; 32],
     transcript: [u8; 32],
@@ -49,9 +52,9 @@ extern "C" {
     fn phieulakhon_open(
         p: Params,
         context: *const [u8; 32],
-        marks: *mut [u8; 10],
-        words: *mut [u32; 10],
-        counts: *mut [usize; 2],
+        u8s: *mut [u8; U8S],
+        u32s: *mut [u32; 10],
+        sizes: *mut [usize; 2],
         item: *mut [u8; 32],
         node: *mut [u8; 32],
         transcript: *mut [u8; 32],
@@ -60,9 +63,9 @@ extern "C" {
         coefficients: *mut [u32; 64],
     ) -> Answer;
     fn phieulakhon_piece(
-        marks: *mut [u8; 10],
-        words: *mut [u32; 10],
-        counts: *mut [usize; 2],
+        u8s: *mut [u8; U8S],
+        u32s: *mut [u32; 10],
+        sizes: *mut [usize; 2],
         item: *mut [u8; 32],
         bytes: *const u8,
         length: usize,
@@ -73,9 +76,9 @@ extern "C" {
         coefficients: *mut [u32; 64],
     ) -> Answer;
     fn phieulakhon_end(
-        marks: *mut [u8; 10],
-        words: *mut [u32; 10],
-        counts: *mut [usize; 2],
+        u8s: *mut [u8; U8S],
+        u32s: *mut [u32; 10],
+        sizes: *mut [usize; 2],
         item: *mut [u8; 32],
         node: *mut [u8; 32],
         transcript: *mut [u8; 32],
@@ -111,9 +114,9 @@ pub fn file_length(p: Params) -> usize {
 
 pub fn open(p: Params, context: &[u8; 32]) -> (Answer, Held) {
     let mut held = Held {
-        marks: [0; 10],
-        words: [0; 10],
-        counts: [0; 2],
+        u8s: [0; U8S],
+        u32s: [0; 10],
+        sizes: [0; 2],
         item: [0; 32],
         node: [0; 32],
         transcript: [0; 32],
@@ -126,9 +129,9 @@ pub fn open(p: Params, context: &[u8; 32]) -> (Answer, Held) {
         phieulakhon_open(
             p,
             context,
-            &mut held.marks,
-            &mut held.words,
-            &mut held.counts,
+            &mut held.u8s,
+            &mut held.u32s,
+            &mut held.sizes,
             &mut held.item,
             &mut held.node,
             &mut held.transcript,
@@ -148,9 +151,9 @@ pub fn piece(held: &mut Held, bytes: &[u8]) -> Answer {
     // meanwhile.
     unsafe {
         phieulakhon_piece(
-            &mut held.marks,
-            &mut held.words,
-            &mut held.counts,
+            &mut held.u8s,
+            &mut held.u32s,
+            &mut held.sizes,
             &mut held.item,
             bytes.as_ptr(),
             bytes.len(),
@@ -167,9 +170,9 @@ pub fn end(held: &mut Held) -> Answer {
     // SAFETY: as for a piece.
     unsafe {
         phieulakhon_end(
-            &mut held.marks,
-            &mut held.words,
-            &mut held.counts,
+            &mut held.u8s,
+            &mut held.u32s,
+            &mut held.sizes,
             &mut held.item,
             &mut held.node,
             &mut held.transcript,
@@ -215,11 +218,10 @@ pub fn write(
 #[cfg(test)]
 mod tests {
     use super::*;
+    use crate::header;
     use std::collections::BTreeSet;
     use std::fmt::Write;
     use std::mem::{offset_of, size_of};
-    use std::path::Path;
-    use std::process::Command;
 
     type Image = [u8; size_of::<Held>()];
 
@@ -257,18 +259,18 @@ mod tests {
             if turn % 3 > 0 {
                 // A stage that there is, and a fill and a cursor near the bounds of those that a
                 // call leaves.
-                h.marks[0] = (random(seed) % 12) as u8;
-                h.counts[0] = (random(seed) % 34) as usize;
-                h.counts[1] = (random(seed) % 66) as usize;
-                h.words[0] = if turn % 3 == 1 {
+                h.u8s[0] = (random(seed) % 12) as u8;
+                h.sizes[0] = (random(seed) % 34) as usize;
+                h.sizes[1] = (random(seed) % 66) as usize;
+                h.u32s[0] = if turn % 3 == 1 {
                     random(seed) as u32 % 4
                 } else {
                     u32::MAX - random(seed) as u32 % 4
                 };
-                h.marks[5] %= 130;
-                h.marks[6] %= 17;
-                h.marks[7] %= 5;
-                h.marks[8] %= 33;
+                h.u8s[1] %= 130;
+                h.u8s[2] %= 17;
+                h.u8s[3] %= 5;
+                h.u8s[4] %= 33;
             }
             all_calls_return(h, &bytes[..random(seed) as usize % 200]);
         }
@@ -353,22 +355,7 @@ mod tests {
     /// The layout of the C header, as bindings/c/layout.c prints it.
     #[test]
     fn the_layout_is_the_headers() {
-        let c = Path::new(env!("CARGO_MANIFEST_DIR")).join("../c/layout.c");
-        let program =
-            std::env::temp_dir().join(format!("phieulakhon_layout_{}", std::process::id()));
-        let built = Command::new("cc")
-            .arg(&c)
-            .arg("-o")
-            .arg(&program)
-            .status()
-            .expect("the C compiler `cc`");
-        assert!(built.success());
-        let said = Command::new(&program)
-            .output()
-            .expect("the program just built")
-            .stdout;
-        std::fs::remove_file(&program).expect("the program just built");
-
+        let said = header::said("layout.c");
         let mut ours = String::new();
         macro_rules! rows {
             ($($struct:ty: $($($field:ident).+),+;)+) => {
@@ -390,9 +377,9 @@ mod tests {
             Params: n, b, k, q;
             Answer: number, place;
             Span: number, place, start, length;
-            Held: marks, words, counts, item, node, transcript;
+            Held: u8s, u32s, sizes, item, node, transcript;
             Held: roots, challenges, coefficients;
         }
-        assert_eq!(ours, String::from_utf8(said).unwrap());
+        assert_eq!(ours, said);
     }
 }

@@ -19,7 +19,7 @@ pub struct Scratch<'a> {
 /// ```
 /// use phieulakhon::{verdict, write_proof, Context, Params, WriteRefusal};
 ///
-/// let params = Params { n: 4, b: 2, k: 1, q: 2 };
+/// let params = Params::new(4, 2, 1, 2);
 /// let context = Context([0; 32]);
 /// let proof = write_proof(params, context, &[2, 3, 0, 1])?;
 /// let accepted = verdict(params, context, &proof).expect("what is written is accepted");
@@ -33,6 +33,11 @@ pub struct Scratch<'a> {
 ///
 /// It allocates the output and 72·2^n bytes of scratch, and so is never refused for them; with
 /// parameters that are not valid it allocates nothing.
+///
+/// # Errors
+///
+/// [`WriteRefusal::ParametersNotValid`], [`WriteRefusal::WrongCoefficientCount`] and
+/// [`WriteRefusal::NotBelowModulus`], in this order.
 pub fn write_proof(
     params: Params,
     context: Context,
@@ -56,7 +61,7 @@ pub fn write_proof(
 /// ```
 /// use phieulakhon::{verdict, write_proof_in, Context, Params, Scratch, WriteRefusal};
 ///
-/// let params = Params { n: 4, b: 2, k: 1, q: 2 };
+/// let params = Params::new(4, 2, 1, 2);
 /// let (mut numbers, mut bytes, mut output) = ([7; 32], [7; 1024], [7; 300]);
 /// for batch in 0..3 {
 ///     let context = Context([batch; 32]);
@@ -68,6 +73,10 @@ pub fn write_proof(
 /// assert_eq!((numbers, bytes), ([0; 32], [0; 1024]));
 /// # Ok::<(), WriteRefusal>(())
 /// ```
+///
+/// # Errors
+///
+/// The first that applies, in the order of [`WriteRefusal`].
 pub fn write_proof_in(
     params: Params,
     context: Context,

@@ -13,7 +13,7 @@ const DIRT: u8 = 0xa5;
 const DIRTY: u32 = 0xa5a5_a5a5;
 
 fn params(n: u8, b: u8, k: u8, q: u8) -> Params {
-    Params { n, b, k, q }
+    Params::new(n, b, k, q)
 }
 
 fn coefficients(params: Params, seed: u64) -> Vec<u32> {
