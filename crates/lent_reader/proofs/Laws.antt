@@ -20,7 +20,7 @@ use Rattle.reader_model.specs.declared.Reader.{Reader}
 use Rattle.reader_model.specs.declared.Reply.{Reply}
 use Rattle.reader_model.specs.State.{itemLength, whole, withItem}
 use Rattle.reader_model.specs.Model.{endsInside, filledItem, isStopped, openAnswer, answerOf, replied, fed, pieced, ended}
-use Rattle.reader.proofs.Fold.{filled-inside, filled-not, run, fed-inside}
+use Rattle.reader_model.proofs.Pieces.{filled-inside, filled-not, run, fed-inside}
 use Rattle.lent_reader.specs.declared.parts.Front.{Front}
 use Rattle.lent_reader.specs.Private.{frontOf}
 use Rattle.lent_reader.specs.Held.{Small, Held, Outcome, numberOf, stageOf, small, smallOf, coreOf, held, heldOf, readerOf, outcome, outcomeOf}

@@ -2,16 +2,13 @@
 // at an item's last byte. Every function equals its definition in the crate below, with SHA-256 for the hash.
 ghost use mathlib.Core.Path.{_≡_};
 ghost use mathlib.Core.Bool.{cond};
-ghost use Prim.Native.Nat.{_+_, _≤_, _<_, min};
+ghost use Prim.Native.Nat.{_+_, _<_};
 ghost use lib.Dec.{ltb};
-ghost use lib.ListN.{length, take};
-ghost use lib.Seq.{sets};
+ghost use lib.ListN.{length};
 ghost use Rattle.sha256.specs.Sha256.{sha256};
 ghost use Rattle.reader_model.specs.State.{itemLength, closedState, tables, whole};
-ghost use Rattle.reader_model.specs.Items.{afterItem, advanced};
 ghost use Rattle.answer.specs.Table.{open-so-far, accepted, too-few-bytes};
-ghost use Rattle.reader_model.specs.Model.{isStopped, isTail, openAnswer, fed, started, replied, pieced, endsInside, filledItem, ended, opened};
-ghost use Rattle.reader_items.specs.Private.{Sane};
+ghost use Rattle.reader_model.specs.Model.{isStopped, isTail, openAnswer, started, replied, pieced, endsInside, filledItem, ended, opened};
 use answer::Answer;
 use params::Params;
 use params::Terms;
@@ -26,121 +23,6 @@ use reader_model::Stage;
 use reader_model::Tables;
 use transcript::Transcript;
 
-// What a whole item of a sane state does, by its stage.
-fn dispatch(
-    c: Core,
-    roots: &mut [u8; ROOTS],
-    challenges: &mut [u32; CHALLENGES],
-    coefficients: &mut [u32; COEFFICIENTS],
-) -> Core
-    requires { ⌜ Sane c ⌝ }
-    ensures { λ r. ⌜ whole r (now (roots .exit)) (now (challenges .exit)) (now (coefficients .exit)) ≡ afterItem sha256 (c .stage) c (tables (now (roots .entry)) (now (challenges .entry)) (now (coefficients .entry))) ⌝ }
-{
-    let stage = c.stage;
-    let params = c.params;
-    match stage {
-        Stage::ParameterCount => reader_items::sections::after_count(
-            c,
-            params::HEADER_SIZE,
-            Stage::Parameters,
-        ),
-        Stage::Parameters => reader_items::sections::after_parameters(c),
-        Stage::RootCount => reader_items::sections::after_count(c, params.k as usize, Stage::Root),
-        Stage::Root => reader_items::sections::after_root(c, roots, challenges),
-        Stage::CoefficientCount => {
-            let count = params::final_count(params);
-            reader_items::sections::after_count(c, count, Stage::Coefficient)
-        }
-        Stage::Coefficient => reader_items::sections::after_coefficient(c, coefficients),
-        Stage::QueryCount => reader_items::sections::after_query_count(c),
-        Stage::Value => reader_queries::after_value(c, challenges),
-        Stage::Sibling => reader_queries::after_sibling(c, roots, coefficients),
-        Stage::Tail => reader_items::state::refuse(c, answer::BYTE_AFTER_THE_END),
-        Stage::Stopped => c,
-    }
-}
-
-// The state after a whole item.
-fn advance(
-    c: Core,
-    roots: &mut [u8; ROOTS],
-    challenges: &mut [u32; CHALLENGES],
-    coefficients: &mut [u32; COEFFICIENTS],
-) -> Core
-    ensures { λ r. ⌜ whole r (now (roots .exit)) (now (challenges .exit)) (now (coefficients .exit)) ≡ advanced sha256 (whole c (now (roots .entry)) (now (challenges .entry)) (now (coefficients .entry))) ⌝ }
-{
-    if reader_items::state::is_sane(c) {
-        dispatch(c, roots, challenges, coefficients)
-    } else {
-        reader_items::state::halt(answer::CLOSED, 0)
-    }
-}
-
-fn least(a: usize, b: usize) -> usize
-    ensures { λ r. ⌜ r ≡ min a b ⌝ }
-{
-    if a < b { a } else { b }
-}
-
-// The first n bytes of a piece go into the item's buffer, from index at on.
-fn copy(item: &mut [u8; 32], at: usize, bytes: &[u8], n: usize)
-    requires { ⌜ (at + n ≤ 32) × (n ≤ length (now bytes)) ⌝ }
-    ensures { λ _. ⌜ now (item .exit) ≡ sets (now (item .entry)) at (take n (now (bytes .entry))) ⌝ }
-{
-    let mut i = 0;
-    while i < n {
-        item[at + i] = bytes[i];
-        i += 1;
-    }
-}
-
-// The same. One byte is stored, since a run is copied by a call.
-fn gather(item: &mut [u8; 32], at: usize, bytes: &[u8], n: usize)
-    requires { ⌜ (at + n ≤ 32) × (n ≤ length (now bytes)) ⌝ }
-    ensures { λ _. ⌜ now (item .exit) ≡ sets (now (item .entry)) at (take n (now (bytes .entry))) ⌝ }
-{
-    if n == 1 {
-        item[at] = bytes[0];
-    } else {
-        copy(item, at, bytes, n);
-    }
-}
-
-// The state after a piece, item by item. Only the small part goes by value.
-fn feed(
-    core: Core,
-    roots: &mut [u8; ROOTS],
-    challenges: &mut [u32; CHALLENGES],
-    coefficients: &mut [u32; COEFFICIENTS],
-    bytes: &[u8],
-) -> Core
-    ensures { λ r. ⌜ whole r (now (roots .exit)) (now (challenges .exit)) (now (coefficients .exit)) ≡ fed sha256 (whole core (now (roots .entry)) (now (challenges .entry)) (now (coefficients .entry))) (now (bytes .entry)) ⌝ }
-{
-    let mut c = core;
-    let mut i = 0;
-    while i < bytes.len() {
-        let stage = c.stage;
-        let need = reader_items::state::item_length(stage);
-        let fill = c.fill;
-        if need <= fill {
-            break;
-        }
-        let room = need - fill;
-        let n = least(room, bytes.len() - i);
-        gather(&mut c.item, fill, &bytes[i..], n);
-        c.fill = fill + n;
-        i += n;
-        if n == room {
-            if reader_queries::goes_on(c) {
-                c = reader_queries::up(c);
-            } else {
-                c = advance(c, roots, challenges, coefficients);
-            }
-        }
-    }
-    c
-}
-
 // A piece: its answer, and the small part of the state after it; the tables are lent and changed in place.
 pub fn piece_in_place(
     core: Core,
@@ -151,7 +33,7 @@ pub fn piece_in_place(
 ) -> Progress
     ensures { λ r. ⌜ replied (r .answer) (r .core) (now (roots .exit)) (now (challenges .exit)) (now (coefficients .exit)) ≡ pieced sha256 (whole core (now (roots .entry)) (now (challenges .entry)) (now (coefficients .entry))) (now (bytes .entry)) ⌝ }
 {
-    let next = feed(core, roots, challenges, coefficients, bytes);
+    let next = reader_pieces::feed(core, roots, challenges, coefficients, bytes);
     let answer = reader_items::state::answer_of(next, answer::OPEN);
     Progress {
         answer: answer,
@@ -175,7 +57,7 @@ pub fn fill_item(stage: Stage, fill: usize, item: &mut [u8; 32], bytes: &[u8]) -
 {
     let length = bytes.len();
     if ends_inside(stage, fill, length) {
-        gather(item, fill, bytes, length);
+        reader_pieces::gather(item, fill, bytes, length);
         true
     } else {
         false

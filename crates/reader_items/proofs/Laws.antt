@@ -1,4 +1,4 @@
--- Laws on choices by a test, and on the tests of a state, over plain variables, so that a function's answer only cites them.
+-- Laws on the tests of a state, over plain variables, so that a function's answer only cites them.
 -- Assumes nothing.
 use Prim.Native.Nat.{ℕ, _+_, _≤_, _<_}
 use mathlib.Core.Path.{_≡_, refl, sym, _∙_, ap}
@@ -18,14 +18,8 @@ use Rattle.reader_model.specs.declared.Tables.{Tables}
 use Rattle.reader_model.specs.declared.Reader.{Reader}
 use Rattle.reader_model.specs.State.{stopped, keeping, withCore, withWalk, movedTo}
 use Rattle.reader_model.specs.Items.{sane, atHeight, climbed, afterSibling, afterItem, advanced}
+use Rattle.reader_model.proofs.Choice.{taken, left}
 use Rattle.reader_items.specs.Private.{Sane, isSibling, goesOn, risen}
-
--- A choice whose test holds, and one whose test fails.
-pub taken : {A : Type 0} {b : Bool} {x : A} (y : A) → b ≡ true → x ≡ cond b x y
-taken {A} {b} {x} y e = rw e
-
-pub left : {A : Type 0} {b : Bool} {y : A} (x : A) → b ≡ false → y ≡ cond b x y
-left {A} {b} {y} x e = rw e
 
 -- A conjunction that holds.
 pub and-fst : (a b : Bool) → (a && b) ≡ true → a ≡ true

@@ -7,7 +7,7 @@ use native.Mathlib.Omega.{arith}
 use borrow.Author.Needs.{needs}
 use borrow.Author.Tests.{ltb-true}
 use Rattle.reader_model.specs.State.{itemLength}
-use Rattle.reader.proofs.Fold.{item-fits}
+use Rattle.reader_model.proofs.Pieces.{item-fits}
 use Rattle.lent_reader.proofs.Laws.{read-whole, held-piece}
 use Rattle.lent_reader.proofs.piece.Statement.{statement}
 use Rattle.lent_reader.proofs.piece.Tie as tie

@@ -6,7 +6,7 @@ use native.Mathlib.Omega.{arith}
 use lib.Dec.{ltb}
 use borrow.Author.Needs.{needs}
 use Rattle.reader_model.specs.State.{itemLength}
-use Rattle.reader.proofs.Fold.{ends-inside-test, too-long-test}
+use Rattle.reader_model.proofs.Pieces.{ends-inside-test, too-long-test}
 use Rattle.reader.proofs.ends_inside.Statement.{statement}
 use Rattle.reader.proofs.ends_inside.Tie as tie
 

@@ -7,7 +7,7 @@ use native.Mathlib.Omega.{arith}
 use borrow.Author.Needs.{needs}
 use borrow.Author.Tests.{ltb-true}
 use Rattle.reader_model.specs.State.{itemLength}
-use Rattle.reader.proofs.Fold.{item-fits, gathered-inside, filled-not}
+use Rattle.reader_model.proofs.Pieces.{item-fits, gathered-inside, filled-not}
 use Rattle.reader.proofs.fill_item.Statement.{statement}
 use Rattle.reader.proofs.fill_item.Tie as tie
 

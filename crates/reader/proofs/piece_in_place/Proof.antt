@@ -2,7 +2,7 @@
 -- Assumes nothing.
 use borrow.Author.Needs.{needs}
 use Rattle.sha256.specs.Sha256.{sha256}
-use Rattle.reader.proofs.Fold.{answers}
+use Rattle.reader_model.proofs.Pieces.{answers}
 use Rattle.reader.proofs.piece_in_place.Statement.{statement}
 use Rattle.reader.proofs.piece_in_place.Tie as tie
 

@@ -2,7 +2,7 @@
 -- Assumes nothing.
 use mathlib.Core.Path.{_∙_}
 use Rattle.reader_model.specs.Items.{afterLeaf}
-use Rattle.reader_items.proofs.Laws.{taken, left}
+use Rattle.reader_model.proofs.Choice.{taken, left}
 use borrow.Author.Needs.{needs}
 use Rattle.reader_queries.proofs.after_leaf.Statement.{statement}
 use Rattle.reader_queries.proofs.after_leaf.Tie as tie

@@ -1,7 +1,7 @@
 -- `reader::queries::after_path` meets its contract.
 -- Assumes nothing.
 use Rattle.reader_model.specs.Items.{rooted, afterPath}
-use Rattle.reader_items.proofs.Laws.{taken, left}
+use Rattle.reader_model.proofs.Choice.{taken, left}
 use mathlib.Core.Path.{sym, _∙_}
 use borrow.Author.Needs.{needs}
 use Rattle.reader_queries.proofs.after_path.Statement.{statement}

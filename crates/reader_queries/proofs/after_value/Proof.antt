@@ -3,7 +3,7 @@
 use mathlib.Core.Path.{_∙_}
 use borrow.Author.Tests.{lt-ltb, le-ltb}
 use Rattle.reader_model.specs.Items.{afterValue}
-use Rattle.reader_items.proofs.Laws.{taken, left}
+use Rattle.reader_model.proofs.Choice.{taken, left}
 use Rattle.reader_items.proofs.Bytes.{less-as, not-less-as}
 use borrow.Author.Needs.{needs}
 use Rattle.reader_queries.proofs.after_value.Statement.{statement}

@@ -1,7 +1,7 @@
 -- `reader::queries::next_layer` meets its contract.
 -- Assumes nothing.
 use Rattle.reader_model.specs.Items.{nextLayer}
-use Rattle.reader_items.proofs.Laws.{taken, left}
+use Rattle.reader_model.proofs.Choice.{taken, left}
 use mathlib.Core.Path.{sym, _∙_}
 use borrow.Author.Tests.{lt-ltb, le-ltb}
 use borrow.Author.Needs.{needs}

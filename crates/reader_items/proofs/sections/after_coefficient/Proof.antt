@@ -1,7 +1,7 @@
 -- `reader::sections::after_coefficient` meets its contract.
 -- Assumes nothing.
 use Rattle.reader_model.specs.Items.{afterCoefficient, coefficientsAfter}
-use Rattle.reader_items.proofs.Laws.{taken, left}
+use Rattle.reader_model.proofs.Choice.{taken, left}
 use mathlib.Core.Path.{_∙_}
 use borrow.Author.Tests.{lt-ltb, le-ltb}
 use borrow.Author.Needs.{needs}

@@ -1,7 +1,7 @@
 -- `reader::sections::after_count` meets its contract.
 -- Assumes nothing.
 use Rattle.reader_model.specs.Items.{afterCount}
-use Rattle.reader_items.proofs.Laws.{taken, left}
+use Rattle.reader_model.proofs.Choice.{taken, left}
 use mathlib.Core.Path.{sym, _∙_}
 use borrow.Author.Tests.{eq-eqb, ne-eqb}
 use borrow.Author.Needs.{needs}

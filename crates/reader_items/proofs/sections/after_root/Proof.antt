@@ -1,7 +1,7 @@
 -- `reader::sections::after_root` meets its contract.
 -- Assumes nothing.
 use Rattle.reader_model.specs.Items.{rootState, afterRoot, rootsAfter, challengesAfter}
-use Rattle.reader_items.proofs.Laws.{taken, left}
+use Rattle.reader_model.proofs.Choice.{taken, left}
 use mathlib.Core.Path.{_≡_, refl, _∙_}
 use Rattle.sha256.specs.Sha256.{sha256}
 use Rattle.transcript.specs.Transcript.{absorb, challenge}

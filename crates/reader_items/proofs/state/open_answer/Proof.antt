@@ -2,7 +2,8 @@
 -- Assumes nothing.
 use native.Mathlib.Omega.{arith}
 use Rattle.reader_model.specs.Model.{openAnswer}
-use Rattle.reader_items.proofs.Laws.{taken, left, place-bounds}
+use Rattle.reader_model.proofs.Choice.{taken, left}
+use Rattle.reader_items.proofs.Laws.{place-bounds}
 use Rattle.reader_items.proofs.state.open_answer.Statement.{statement}
 use Rattle.reader_items.proofs.state.open_answer.Tie as tie
 

@@ -1,10 +1,10 @@
--- `reader::advance` meets its contract.
+-- `reader_pieces::advance` meets its contract.
 -- Assumes nothing.
 use Rattle.reader_items.proofs.Laws.{sane-bounds, advanced-sane, advanced-not}
 use mathlib.Core.Path.{sym, _∙_}
 use borrow.Author.Needs.{needs}
-use Rattle.reader.proofs.advance.Statement.{statement}
-use Rattle.reader.proofs.advance.Tie as tie
+use Rattle.reader_pieces.proofs.advance.Statement.{statement}
+use Rattle.reader_pieces.proofs.advance.Tie as tie
 
 is-sane-requires : tie.Need-is-sane-requires
 is-sane-requires c κs = search needs

@@ -1,10 +1,10 @@
--- `reader::dispatch` meets its contract.
+-- `reader_pieces::dispatch` meets its contract.
 -- Assumes nothing.
 use Rattle.reader_items.proofs.Laws.{core-at, item-at}
 use mathlib.Core.Path.{refl}
 use borrow.Author.Needs.{needs}
-use Rattle.reader.proofs.dispatch.Statement.{statement}
-use Rattle.reader.proofs.dispatch.Tie as tie
+use Rattle.reader_pieces.proofs.dispatch.Statement.{statement}
+use Rattle.reader_pieces.proofs.dispatch.Tie as tie
 
 enum-told : tie.Need-enum-told
 enum-told c = search needs

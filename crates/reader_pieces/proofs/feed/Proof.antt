@@ -1,4 +1,4 @@
--- `reader::feed` meets its contract: at the loop's head the parts put together are the state after the first i bytes.
+-- `reader_pieces::feed` meets its contract: at the loop's head the parts put together are the state after the first i bytes.
 -- Assumes nothing.
 use Prim.Native.Nat.{_≤_, _<_, _-_, _+_}
 use mathlib.Core.Path.{_≡_, refl, sym, _∙_}
@@ -10,9 +10,9 @@ use Rattle.sha256.specs.Sha256.{sha256}
 use Rattle.reader_model.specs.State.{itemLength, whole}
 use Rattle.reader_model.specs.Model.{fed}
 use Rattle.reader_items.proofs.Laws.{goes-on-sane, advanced-risen}
-use Rattle.reader.proofs.Fold.{item-fits, fed-stopped, fed-all, fed-more, fed-last}
-use Rattle.reader.proofs.feed.Statement.{statement}
-use Rattle.reader.proofs.feed.Tie as tie
+use Rattle.reader_model.proofs.Pieces.{item-fits, fed-stopped, fed-all, fed-more, fed-last}
+use Rattle.reader_pieces.proofs.feed.Statement.{statement}
+use Rattle.reader_pieces.proofs.feed.Tie as tie
 
 abbrev Inv-loop : tie.InvT-loop
 Inv-loop roots₀ challenges₀ coefficients₀ bytes c₀ i₀ roots challenges coefficients c i = (i ≤ length bytes) × (whole c roots challenges coefficients ≡ fed sha256 (whole c₀ roots₀ challenges₀ coefficients₀) (take i bytes))

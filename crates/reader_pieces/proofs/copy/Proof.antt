@@ -1,4 +1,4 @@
--- `reader::copy` meets its contract: after i turns the first i bytes are stored.
+-- `reader_pieces::copy` meets its contract: after i turns the first i bytes are stored.
 -- Assumes nothing.
 use Prim.Native.Nat.{_≤_, _<_, _-_}
 use mathlib.Core.Path.{_≡_, refl}
@@ -8,8 +8,8 @@ use lib.ListN.{length, take}
 use lib.Seq.{sets}
 use Rattle.message.proofs.MessageLaws.{copy-more}
 use Rattle.reader_items.proofs.Laws.{copy-stop}
-use Rattle.reader.proofs.copy.Statement.{statement}
-use Rattle.reader.proofs.copy.Tie as tie
+use Rattle.reader_pieces.proofs.copy.Statement.{statement}
+use Rattle.reader_pieces.proofs.copy.Tie as tie
 
 abbrev Inv-loop : tie.InvT-loop
 Inv-loop item₀ at bytes n i₀ item i = (i ≤ n) × (item ≡ sets item₀ at (take i bytes))

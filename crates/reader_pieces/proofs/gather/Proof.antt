@@ -1,10 +1,10 @@
--- `reader::gather` meets its contract: one byte, or a run.
+-- `reader_pieces::gather` meets its contract: one byte, or a run.
 -- Assumes nothing.
 use native.Mathlib.Omega.{arith}
 use borrow.Author.Needs.{needs}
-use Rattle.reader.proofs.Fold.{gathered-one}
-use Rattle.reader.proofs.gather.Statement.{statement}
-use Rattle.reader.proofs.gather.Tie as tie
+use Rattle.reader_model.proofs.Pieces.{gathered-one}
+use Rattle.reader_pieces.proofs.gather.Statement.{statement}
+use Rattle.reader_pieces.proofs.gather.Tie as tie
 
 shared-slice-read-item : tie.Need-shared-slice-read-item
 shared-slice-read-item c = search needs
