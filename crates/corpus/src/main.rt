@@ -62,7 +62,7 @@ fn run_job(fd: i32) -> bool {
     if !read.whole {
         return false;
     }
-    let line = job::line(job::finish(read.state));
+    let line = line::line(job::finish(read.state));
     let bytes = line.bytes;
     let length = line.length;
     io::write_all(STDOUT_FILENO, &bytes[..length]);

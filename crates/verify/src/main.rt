@@ -70,7 +70,7 @@ fn read_some(state: Job) -> Turn {
 
 // Writes the line of a job that ends here.
 fn write_line(state: Job) {
-    let line = job::line(job::finish(state));
+    let line = line::line(job::finish(state));
     let bytes = line.bytes;
     let length = line.length;
     io::write_all(STDOUT_FILENO, &bytes[..length]);

@@ -1,7 +1,7 @@
 -- `corpus::run_job` is safe: a line's array can be cut at its length.
 -- Assumes nothing.
 use borrow.Author.Needs.{needs}
-use Rattle.job.proofs.Texts.{line-counts}
+use Rattle.line.proofs.Texts.{line-counts}
 use Rattle.corpus.proofs.run_job.Statement.{statement}
 use Rattle.corpus.proofs.run_job.Tie as tie
 

@@ -1,7 +1,7 @@
 -- `verify::write_line` is safe: a line's array can be cut at its length.
 -- Assumes nothing.
 use borrow.Author.Needs.{needs}
-use Rattle.job.proofs.Texts.{line-counts}
+use Rattle.line.proofs.Texts.{line-counts}
 use Rattle.verify.proofs.write_line.Statement.{statement}
 use Rattle.verify.proofs.write_line.Tie as tie
 

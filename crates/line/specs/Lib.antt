@@ -1,0 +1,3 @@
+-- The line that tells an answer.
+pub mod Line
+pub mod Private
