@@ -1,6 +1,6 @@
 -- Document 01's worked examples marked M, each a row: what the definitions give, and what the document says. Every row is a list of numbers, so
 -- that one table holds them all; a Bool is 1 or 0, an answer its number and its place.
-use Prim.Native.Nat.{ℕ, _+_, _%_}
+use Prim.Native.Nat.{ℕ, _+_, _-_}
 use mathlib.Core.Bool.{Bool, cond}
 use mathlib.Core.List.{List, [], _∷_}
 use mathlib.Core.Path.{_≡_}
@@ -15,7 +15,9 @@ use Rattle.transcript.specs.Transcript.{challenge}
 use Rattle.fold.specs.Poly.{eval, fold}
 use Rattle.fold.specs.Fold.{next}
 use Rattle.fri.specs.Process.{run, done}
-use Rattle.fri.specs.Judge.{number, valueAt, endAnswer, verdict}
+use Rattle.fri.specs.Encoding.{Opening, Proof}
+use Rattle.fri.specs.Judge.{number, endAnswer, verdict}
+use Rattle.fri.specs.Accepted.{leafAt, nextValue}
 
 pub record Example : Type 0 where
   pub gives : List ℕ
@@ -37,8 +39,25 @@ shown a = a .number ∷ a .place ∷ []
 abbrev pub parameters : ℕ → ℕ → ℕ → ℕ → Params
 parameters n b k q = record { n = n; b = b; k = k; q = q }
 
+-- n = 4, b = 1, k = 2, a hash that draws leaf 6, and a proof whose leaf in layer 1 has the values 1 and 2. The rows ask for query 0's leaf in
+-- layer j, and for the value that its index names in layer 1.
 abbrev pub small : Params
 small = parameters 4 1 2 1
+
+abbrev pub drawsSix : List ℕ → List ℕ
+drawsSix message = replicate 32 6
+
+abbrev pub holding : List ℕ → Opening
+holding values = record { values = values; siblings = [] }
+
+abbrev pub twoLayers : Proof
+twoLayers = record { roots = [] ∷ [] ∷ []; final = []; queries = (holding [] ∷ holding (1 ∷ 2 ∷ []) ∷ []) ∷ [] }
+
+abbrev pub leaf : ℕ → ℕ
+leaf j = leafAt drawsSix small [] twoLayers 0 j
+
+abbrev pub named : ℕ
+named = nextValue drawsSix small [] twoLayers 0 0
 
 -- The opening's verdict on no bytes, with a context of zeros.
 abbrev pub opened : Params → Answer
@@ -84,9 +103,9 @@ examples =
     ∷ (shown (opened (parameters 20 8 6 0)) is 10 ∷ 0 ∷ [])
     ∷ (shown (opened (parameters 20 8 6 65)) is 10 ∷ 0 ∷ [])
     -- n = 4, b = 1, k = 2, m = 6: leaf 6, with the values at 6 and 14; then leaf 2, where index 6 names the second value; final index 2; paths 3 and 2 long
-    ∷ ((6 % leafCount small 0) ∷ (6 % leafCount small 0 + leafCount small 0) ∷ [] is 6 ∷ 14 ∷ [])
-    ∷ ((6 % leafCount small 1) ∷ valueAt small 1 (6 % leafCount small 0) (1 ∷ 2 ∷ []) ∷ [] is 2 ∷ 2 ∷ [])
-    ∷ (one (6 % leafCount small 0 % leafCount small 1) is one 2)
+    ∷ (leaf 0 ∷ (leaf 0 + leafCount small 0) ∷ [] is 6 ∷ 14 ∷ [])
+    ∷ (leaf 1 ∷ named ∷ [] is 2 ∷ 2 ∷ [])
+    ∷ (one (leaf (small .k - 1)) is one 2)
     ∷ (height small 0 ∷ height small 1 ∷ [] is 3 ∷ 2 ∷ [])
     -- eight bytes ff draw the challenge 1789569708
     ∷ (one (challenge allOnes []) is one 1789569708)

@@ -1,6 +1,6 @@
 -- The claim about the reader holds, and feeding bytes in any pieces and ending gives the verdict on them. Assumes nothing.
 use Prim.Native.Nat.{ℕ, zero, suc, _<_}
-use mathlib.Core.Bool.{true, false, false≢true}
+use mathlib.Core.Bool.{Bool, true, false, false≢true}
 use mathlib.Core.List.{List, [], _∷_, _++_, foldl, foldl-append}
 use mathlib.Core.Path.{_≡_, refl, sym, ap, _∙_}
 use native.Mathlib.Omega.{arith}
@@ -16,15 +16,16 @@ use Rattle.transcript.specs.Transcript.{start}
 use Rattle.fri.specs.Judge.{judgement, verdict}
 use Rattle.fri.proofs.Width.{sections-width}
 use Rattle.fri.proofs.Exactly.{accepted-exactly}
-use Rattle.calls.specs.Calls.{Call, piece, end, hasEnd, endsOnce, joined, stateAfter, answers, lastGiven, byByte, Reader as Calls}
+use Rattle.calls.specs.Calls.{Call, piece, end, hasEnd, endsOnce, joined, stateAfter, leaves, answers, lastGiven, byByte, Reader as Calls}
 use Rattle.calls.proofs.Follows.{Shut, state-left, shut-by-byte, refused-opening, refused-leaves}
 use Rattle.calls.proofs.Denotes.{follows, denotes-demand3, denotes-states, denotes-prefix, denotes-size, piece-judged, end-judged, ends-judged}
 use Rattle.reader_model.specs.declared.Reader.{Reader}
 use Rattle.reader_model.specs.State.{closedState}
+use Rattle.reader_model.specs.Items.{sane}
 use Rattle.reader_model.specs.Model.{step, fed, pieced, ended, started, opened}
 use Rattle.reader_model.specs.Claim.{table, reader, Opened, Refused, Claim}
 use Rattle.reader_model.specs.Claim
-use Rattle.reader_model.proofs.Whole.{says, endsWith, Reached, reaches, started-reached, refused-core, shuts, denotes}
+use Rattle.reader_model.proofs.Whole.{says, endsWith, Reached, reaches, started-reached, reached-sane, refused-core, shuts, denotes}
 
 -- A piece after a piece is the one piece of both, so the pieces of a list are the one piece of all their bytes.
 module _ (hash : List ℕ → Digest) where
@@ -87,6 +88,20 @@ module _ (hash : List ℕ → Digest) (a : Terms) where
     reached (piece xs ∷ cs) r h e = reached cs (foldl (step hash) r xs) (reaches hash first xs h) e
     reached (end ∷ cs) r h e = absurd (false≢true (sym e))
 
+    -- What an end call leaves, and that every state is within the bounds.
+    closing : (cs : List Call) → hasEnd cs ≡ true → leaves (reader hash a) cs ≡ closedState
+    unfolding opened pieced fed ended judgement
+    closing cs e =
+        let f = follows (denotes hash first (a .params) (admitted-valid (a .params) v)) in
+        rw (admits-true (a .params) v) ((rw e at (state-left (table hash a) (from beginning) f cs)) ∙ sym (f .end-next []))
+
+    bounded : (cs : List Call) (b : Bool) → hasEnd cs ≡ b → sane (leaves (reader hash a) cs .core) ≡ true
+    unfolding opened pieced fed ended sane
+    bounded cs true e = ap (λ (r : Reader). sane (r .core)) (closing cs e)
+    bounded cs false e =
+        rw (admits-true (a .params) v)
+        (reached-sane hash first (reached cs beginning (started-reached hash first (a .params) (admitted-valid (a .params) v)) e))
+
     opened-claim : (cs : List Call) → Opened hash a cs
     unfolding opened pieced fed ended judgement
     opened-claim cs =
@@ -106,9 +121,8 @@ module _ (hash : List ℕ → Digest) (a : Terms) where
           refused-core = λ xs e.
               rw (admits-true (a .params) v)
               (refused-core hash first (reaches hash first xs (reached cs beginning (started-reached hash first (a .params) (admitted-valid (a .params) v)) e)));
-          closed-state = λ e.
-              let f = follows d in
-              rw (admits-true (a .params) v) ((rw e at (state-left (table hash a) (from beginning) f cs)) ∙ sym (f .end-next []));
+          closed-state = closing cs;
+          within-bounds = bounded cs (hasEnd cs) refl;
         }
 
     -- The end call after one piece, and after any pieces: the verdict on their bytes.

@@ -21,6 +21,7 @@ use Rattle.calls.specs.Demand3.{Demand3, PrefixRule, StateRule, SizeRule, toPie
 use Rattle.calls.specs.Judged.{tableOf}
 use Rattle.reader_model.specs.declared.Reader.{Reader}
 use Rattle.reader_model.specs.State.{stopped, closedState}
+use Rattle.reader_model.specs.Items.{sane}
 use Rattle.reader_model.specs.Model.{opened, pieced, ended}
 
 module _ (hash : List ℕ → Digest) (a : Terms) where
@@ -59,6 +60,8 @@ pub record Opened (hash : List ℕ → Digest) (a : Terms) (cs : List Call) : Ty
   pub refused-core : (xs : List ℕ) → hasEnd cs ≡ false → Refuses (toPiece (reader hash a) cs xs)
       → reader hash a .pieceNext (leaves (reader hash a) cs) xs .core ≡ stopped (toPiece (reader hash a) cs xs)
   pub closed-state : hasEnd cs ≡ true → leaves (reader hash a) cs ≡ closedState
+  -- every state that is left keeps the bounds that each item is tested for, so the test never stops a reader
+  pub within-bounds : sane (leaves (reader hash a) cs .core) ≡ true
 
 -- An opening that is refused: its number at 0, and from then on closed, as the plain reader that is closed from the start, in one
 -- fixed state.
