@@ -155,30 +155,18 @@ pub fn moved(c: Core, stage: Stage) -> Core
     requires { ⌜ c .cursor .start + c .fill < 4294967296 ⌝ }
     ensures { λ r. ⌜ r ≡ movedTo c stage ⌝ }
 {
-    let item = c.item;
-    let params = c.params;
-    let walk = c.walk;
-    let transcript = c.transcript;
     let start = c.cursor.start + c.fill as u32;
+    let mut cursor = c.cursor;
+    cursor.start = start;
     Core {
-        stage: stage,
+        stage,
         answer: Answer {
             number: answer::OPEN,
             place: 0,
         },
         fill: 0,
-        item: item,
-        params: params,
-        cursor: Cursor {
-            start: start,
-            coefficient: c.cursor.coefficient,
-            query: c.cursor.query,
-            layer: c.cursor.layer,
-            value: c.cursor.value,
-            height: c.cursor.height,
-        },
-        walk: walk,
-        transcript: transcript,
+        cursor,
+        ..c
     }
 }
 
