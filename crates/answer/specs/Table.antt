@@ -1,7 +1,9 @@
 -- Every answer is a number and a place (document 01, "When the reader says no"). Here each number of the table has its name; when it is given and
 -- at which place is said by the definitions that use the name.
 use Prim.Native.Nat.{ℕ}
+use mathlib.Core.Bool.{Bool, _||_}
 use mathlib.Core.List.{List, [], _∷_}
+use lib.Dec.{eqb}
 use Rattle.answer.specs.declared.Answer.{Answer}
 
 -- number, place
@@ -72,6 +74,17 @@ scratch-too-short = 31
 
 abbrev pub output-too-short : ℕ
 output-too-short = 32
+
+-- the faults: what a byte of a file can get
+abbrev pub isFault : ℕ → Bool
+isFault number =
+    eqb number count-differs
+    || eqb number parameters-differ
+    || eqb number not-below-modulus
+    || eqb number path-misses-root
+    || eqb number not-the-folded-value
+    || eqb number misses-final-polynomial
+    || eqb number byte-after-the-end
 
 -- all of them, ascending
 abbrev pub table : List ℕ

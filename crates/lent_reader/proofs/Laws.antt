@@ -13,13 +13,13 @@ use Rattle.answer.specs.declared.Answer.{Answer}
 use Rattle.answer.specs.Table.{open-so-far}
 use Rattle.params.specs.Parameters.{headerSize, header, fromHeader}
 use Rattle.reader_model.specs.declared.Stage.{Stage}
-use Rattle.reader_model.specs.declared.Stage.the-variants.{ParameterCount, Parameters, RootCount, Root, CoefficientCount, Coefficient, QueryCount, Value, Sibling, Tail, Stopped}
+use Rattle.reader_model.specs.declared.Stage.the-variants.{ParameterCount, Parameters, RootCount, Root, CoefficientCount, Coefficient, QueryCount, Value, Sibling, Tail}
 use Rattle.reader_model.specs.declared.Core.{Core}
 use Rattle.reader_model.specs.declared.Tables.{Tables}
 use Rattle.reader_model.specs.declared.Reader.{Reader}
 use Rattle.reader_model.specs.declared.Reply.{Reply}
 use Rattle.reader_model.specs.State.{itemLength, whole, withItem}
-use Rattle.reader_model.specs.Model.{endsInside, filledItem, isStopped, openAnswer, answerOf, replied, fed, pieced, ended}
+use Rattle.reader_model.specs.Model.{endsInside, filledItem, isStopped, openAnswer, told, answerOf, replied, fed, pieced, ended}
 use Rattle.reader_model.proofs.Pieces.{filled-inside, filled-not, run, fed-inside}
 use Rattle.lent_reader.specs.declared.parts.Front.{Front}
 use Rattle.lent_reader.specs.Private.{frontOf}
@@ -102,7 +102,7 @@ named-back m =
     (pick m 7 QueryCount _ (eqb m 7) refl refl
     (pick m 8 Value _ (eqb m 8) refl refl
     (pick m 9 Sibling _ (eqb m 9) refl refl
-    (pick m 10 Tail Stopped (eqb m 10) refl refl
+    (pick m 10 Tail _ (eqb m 10) refl refl
     (λ h. absurd (omega arith)))))))))))
 
 not-stopped : (stage : Stage) → 0 < itemLength stage → isStopped stage ≡ false
@@ -118,7 +118,7 @@ unfolding pieced answerOf
 pieced-inside r bytes inside =
     let going : isStopped (r .core .stage) ≡ false = not-stopped (r .core .stage) (omega arith) in
     ap (λ (x : Reader). replying (answerOf (x .core) open-so-far) x) (sym (fed-inside sha256 r bytes inside))
-    ∙ ap (λ (t : Bool). replying (cond t (r .core .answer) (openAnswer open-so-far (r .core .cursor .start) (r .core .fill + length bytes))) (run r bytes)) going
+    ∙ ap (λ (t : Bool). replying (cond t (told (r .core .answer)) (openAnswer open-so-far (r .core .cursor .start) (r .core .fill + length bytes))) (run r bytes)) going
 
 -- What a caller holds is put together from equal parts.
 assembled : {a a′ : Answer} {m m′ w w′ k k′ i i′ : List ℕ} (node transcript : List ℕ) (t : Tables) → a ≡ a′ → m ≡ m′ → w ≡ w′ → k ≡ k′ → i ≡ i′

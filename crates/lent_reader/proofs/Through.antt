@@ -1,22 +1,25 @@
 -- A list of calls made through the boundary gets exactly the reader's answers. Assumes nothing.
-use Prim.Native.Nat.{ℕ}
+use Prim.Native.Nat.{ℕ, _<_}
 use mathlib.Core.Bool.{true}
-use mathlib.Core.List.{List, [], _∷_}
+use mathlib.Core.List.{List, [], _∷_, map}
 use mathlib.Core.Path.{_≡_, refl, ap, _∙_}
+use lib.ListN.{length, getD}
 use Rattle.message.specs.Message.{Digest}
 use Rattle.params.specs.declared.Terms.{Terms}
 use Rattle.params.specs.Admission.{Admitted}
 use Rattle.fri.specs.Judge.{verdict}
-use Rattle.answer.specs.Table.{answered, open-so-far}
+use Rattle.answer.specs.Table.{answered, open-so-far, closed}
 use Rattle.calls.specs.Calls.{Call, piece, end, endsOnce, joined, answers, given, lastOr, lastGiven}
 use Rattle.reader_model.specs.declared.Stage.{Stage}
 use Rattle.reader_model.specs.declared.Stage.the-variants.{ParameterCount, Parameters, RootCount, Root, CoefficientCount, Coefficient, QueryCount, Value, Sibling, Tail, Stopped}
 use Rattle.reader_model.specs.declared.Reader.{Reader}
 use Rattle.reader_model.specs.declared.Reply.{Reply}
 use Rattle.reader_model.specs.Model.{opened, pieced, ended}
-use Rattle.reader_model.specs.Claim.{reader}
+use Rattle.reader_model.specs.Claim.{reader, isNumberFor}
 use Rattle.reader_model.proofs.Theorem.{claim}
-use Rattle.lent_reader.specs.Held.{Held, Outcome, numberOf, stageOf, smallOf, coreOf, readerOf, heldOf, outcomeOf, boundary}
+use Rattle.reader_model.proofs.Forged.{closed-each}
+use Rattle.reader_model.proofs.Forged
+use Rattle.lent_reader.specs.Held.{Held, zeros, Outcome, numberOf, stageOf, smallOf, coreOf, readerOf, heldOf, outcomeOf, boundary}
 
 -- A reader's state survives the way out and back, in all its fields.
 stage-round : (stage : Stage) → stageOf (numberOf stage) ≡ stage
@@ -61,6 +64,15 @@ module _ (hash : List ℕ → Digest) (a : Terms) where
   from-any-state h (end ∷ cs) =
       let reply = ended (readerOf h) in
       ap (λ more. reply .answer ∷ more) (after (reply .state) cs (from-any-state (heldOf (reply .state)) cs))
+
+  -- So there too each call gets a number that the table has for it; and memory of zeros is a closed reader.
+  pub in-the-table : (h : Held) (cs : List Call) (i : ℕ) → i < length cs
+      → isNumberFor (getD cs i end) (getD (answers (boundary hash a) h cs) i (answered closed 0) .number) ≡ true
+  in-the-table h cs i e = rw (from-any-state h cs) (Forged.in-the-table hash a (readerOf h) cs i e)
+
+  pub zeros-closed : (cs : List Call) → answers (boundary hash a) zeros cs ≡ map (λ _. answered closed 0) cs
+  unfolding coreOf stageOf
+  zeros-closed cs = from-any-state zeros cs ∙ closed-each hash a (readerOf zeros) refl refl cs
 
   -- From the state that the opening left on.
   pub through-the-boundary : (cs : List Call) → given (boundary hash a) cs ≡ given (reader hash a) cs

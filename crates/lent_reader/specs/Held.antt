@@ -1,14 +1,14 @@
 -- The state as a caller holds it, numbers only, and the reader's state that it stands for. The stage is a number: 1 to 10 in the file's order, and every
 -- other number is a stopped reader.
-use Prim.Native.Nat.{ℕ}
+use Prim.Native.Nat.{ℕ, _+_}
 use mathlib.Core.Bool.{cond}
 use mathlib.Core.List.{List, [], _∷_}
-use lib.ListN.{getD, drop}
+use lib.ListN.{getD, drop, replicate}
 use lib.Dec.{eqb}
 use Rattle.message.specs.Message.{Digest}
 use Rattle.answer.specs.declared.Answer.{Answer}
 use Rattle.params.specs.declared.Terms.{Terms}
-use Rattle.params.specs.Parameters.{header, fromHeader}
+use Rattle.params.specs.Parameters.{headerSize, header, fromHeader}
 use Rattle.calls.specs.Calls.{Reader as Calls}
 use Rattle.reader_model.specs.declared.Stage.{Stage}
 use Rattle.reader_model.specs.declared.Stage.the-variants.{ParameterCount, Parameters, RootCount, Root, CoefficientCount, Coefficient, QueryCount, Value, Sibling, Tail, Stopped}
@@ -102,6 +102,12 @@ held u8s u32s sizes item node transcript roots challenges coefficients = record 
   small = small u8s u32s sizes item node transcript;
   tables = record { roots = roots; challenges = challenges; coefficients = coefficients };
 }
+
+-- Memory of zeros.
+abbrev pub zeros : Held
+zeros =
+    held (replicate (6 + headerSize) 0) (replicate 10 0) (replicate 2 0) (replicate 32 0) (replicate 32 0) (replicate 32 0)
+    (replicate 512 0) (replicate 16 0) (replicate 64 0)
 
 unfoldable pub heldOf : Reader → Held
 heldOf r = record { small = smallOf (r .core); tables = r .tables }

@@ -1,10 +1,10 @@
 // The reader's state: the lengths of items, the stopped states, and the move from one item to the next.
 ghost use mathlib.Core.Path.{_≡_};
 ghost use Prim.Native.Nat.{_+_, _<_};
-ghost use Rattle.answer.specs.Table.{answered};
+ghost use Rattle.answer.specs.Table.{answered, isFault};
 ghost use Rattle.reader_model.specs.State.{itemLength, noCursor, noWalk, noTables, stopped, closedState, movedTo};
 ghost use Rattle.reader_model.specs.Items.{sane, refused};
-ghost use Rattle.reader_model.specs.Model.{isStopped, isTail, openAnswer, answerOf};
+ghost use Rattle.reader_model.specs.Model.{isStopped, isTail, openAnswer, told, answerOf};
 ghost use Rattle.reader_items.specs.Private.{isSibling};
 use answer::Answer;
 use reader_model::CHALLENGES;
@@ -197,13 +197,39 @@ pub fn open_answer(number: u8, start: u32, fill: usize) -> Answer
     }
 }
 
+// What a byte of a file can get.
+fn is_fault(number: u8) -> bool
+    ensures { λ r. ⌜ r ≡ isFault number ⌝ }
+{
+    (number == answer::COUNT_DIFFERS)
+        | (number == answer::PARAMETERS_DIFFER)
+        | (number == answer::NOT_BELOW_MODULUS)
+        | (number == answer::PATH_MISSES_ROOT)
+        | (number == answer::NOT_THE_FOLDED_VALUE)
+        | (number == answer::MISSES_FINAL_POLYNOMIAL)
+        | (number == answer::BYTE_AFTER_THE_END)
+}
+
+// What a stopped reader tells of the answer that it keeps.
+fn tell(kept: Answer) -> Answer
+    ensures { λ r. ⌜ r ≡ told kept ⌝ }
+{
+    if is_fault(kept.number) {
+        return kept;
+    }
+    Answer {
+        number: answer::CLOSED,
+        place: 0,
+    }
+}
+
 // The answer of a reader in this state, where an open one answers with this number.
 pub fn answer_of(c: Core, number: u8) -> Answer
     ensures { λ r. ⌜ r ≡ answerOf c number ⌝ }
 {
     let stage = c.stage;
     if is_stopped(stage) {
-        return c.answer;
+        return tell(c.answer);
     }
     open_answer(number, c.cursor.start, c.fill)
 }

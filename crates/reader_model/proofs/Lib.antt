@@ -7,3 +7,4 @@ pub mod Stages
 pub mod Queries
 pub mod Whole
 pub mod Theorem
+pub mod Forged

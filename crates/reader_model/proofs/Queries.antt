@@ -114,7 +114,7 @@ module _ (hash : List ℕ → Digest) (first : Digest) (c : Core) (t : Tables) (
         let vs = leafOf c (valuesWith c) in
         after-number c t (withValue hash (c .params) first w (c .walk .index) (wanted (c .walk)) values zero) (λ _.
         leaves-false _ _ (le-ltb (c .cursor .value + 1) (valuesPerLeaf (c .params)) (omega arith))
-        (tested c _ _ not-the-folded-value _
+        (tested c _ _ not-the-folded-value _ refl
         (ap (λ u. fits (wanted (c .walk)) (valueAt (c .params) (c .cursor .layer) (c .walk .index) u)) all) (λ _.
         leaves-as (goes (with-values s (length-set (c .walk .values) (c .cursor .value) (numberOf c) ∙ s .values-size)) (sibling w left (omega arith)) refl refl)
         (sym (siblings-more hash (c .params) first w (leafIndex c) (expected (leafPoint c) β vs) left (leafDigest hash (c .cursor .layer) vs) (leafIndex c))
@@ -149,7 +149,7 @@ module _ (hash : List ℕ → Digest) (first : Digest) (c : Core) (t : Tables) (
         go [] e =
             let last : suc (c .cursor .layer) ≡ c .params .k = omega (arith, layers-are, ap length e) in
             leaves-false _ _ (le-ltb (c .cursor .layer + 1) (c .params .k) (omega arith))
-            (tested c _ _ misses-final-polynomial _ (finished-is last) (λ _. next-query (w .roots) (w .final) (w .more) (w .late) (w .queries-are)))
+            (tested c _ _ misses-final-polynomial _ refl (finished-is last) (λ _. next-query (w .roots) (w .final) (w .more) (w .late) (w .queries-are)))
         go (root ∷ after) e =
             let inside : c .cursor .layer + suc (suc (length after)) ≡ c .params .k = omega (arith, layers-are, ap length e) in
             let w′ : Walking hash (c .params) first (c .cursor .query) (c .cursor .layer + 1) (c .transcript) t = record {
@@ -182,7 +182,7 @@ module _ (hash : List ℕ → Digest) (first : Digest) (c : Core) (t : Tables) (
     pub after-path : After hash first (afterPath hash c (t .roots) (t .coefficients)) t (place c)
         (withNode hash (c .params) first w (c .walk .index) (wanted (c .walk)) (c .walk .node))
     unfolding afterPath rooted
-    after-path = tested c _ _ path-misses-root _ (ap (sameBytes (c .walk .node)) root-is) (λ _. next-layer)
+    after-path = tested c _ _ path-misses-root _ refl (ap (sameBytes (c .walk .node)) root-is) (λ _. next-layer)
 
 -- A sibling, with as many more after it.
 module _ (hash : List ℕ → Digest) (first : Digest) (c : Core) (t : Tables) (s : Sound c) (w : WalkingAt hash first c t) where

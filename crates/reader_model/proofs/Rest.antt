@@ -1,10 +1,11 @@
 -- What is left of the judgement at each stage, by name, and what a state must hold for it. Assumes nothing.
 use Prim.Native.Nat.{ℕ, zero, suc, _+_, _%_, _/_, _<_}
+use mathlib.Core.Bool.{true}
 use mathlib.Core.List.{List, [], _∷_, _++_}
 use mathlib.Core.Path.{_≡_, refl, ap}
 use lib.Dec.{ltb, eqb}
 use lib.ListN.{length}
-use Rattle.answer.specs.Table.{answered, count-differs, parameters-differ, not-below-modulus, not-the-folded-value, path-misses-root}
+use Rattle.answer.specs.Table.{answered, count-differs, parameters-differ, not-below-modulus, not-the-folded-value, path-misses-root, isFault}
 use Rattle.field.specs.Modular.{p as modulus}
 use Rattle.message.specs.Bytes.{num, joined}
 use Rattle.message.specs.Message.{Digest}
@@ -226,4 +227,4 @@ module _ (hash : List ℕ → Digest) (first : Digest) where
   pub data After (c : Core) (t : Tables) (place : ℕ) : Process → Type 0 where
     goes : {u : ℕ} {f : List ℕ → Process} → Sound c → At c t (c .stage) u f → c .fill ≡ 0 → c .cursor .start ≡ place → After c t place (need u f)
     ends : Sound c → c .stage ≡ Tail → c .fill ≡ 0 → c .cursor .start ≡ place → After c t place done
-    stops : {number : ℕ} → c ≡ stopped (answered number place) → After c t place (fail number)
+    stops : {number : ℕ} → isFault number ≡ true → c ≡ stopped (answered number place) → After c t place (fail number)

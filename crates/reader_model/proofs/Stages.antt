@@ -8,7 +8,7 @@ use lib.Dec.{ltb, eqb}
 use lib.ListN.{length, take, length-append}
 use lib.Pow.{pow-pos}
 use borrow.Author.Tests.{lt-ltb, le-ltb}
-use Rattle.answer.specs.Table.{not-below-modulus, count-differs, parameters-differ}
+use Rattle.answer.specs.Table.{not-below-modulus, count-differs, parameters-differ, isFault}
 use Rattle.field.specs.Modular.{p as modulus}
 use Rattle.message.specs.Message.{Digest}
 use Rattle.message.proofs.Bytes.{joined-length}
@@ -56,26 +56,26 @@ module _ {hash : List ℕ → Digest} {first : Digest} where
   leaves-false false x e a = a
 
   -- The one step of every item: the model's test is the judgement's, so either both go on or both refuse with this number at this place.
-  pub tested : {x : Core} {t : Tables} (c : Core) (b b′ : Bool) (number : ℕ) (q : Unit {0} → Process) → b ≡ b′
+  pub tested : {x : Core} {t : Tables} (c : Core) (b b′ : Bool) (number : ℕ) (q : Unit {0} → Process) → isFault number ≡ true → b ≡ b′
       → (b ≡ true → After hash first x t (place c) (q tt)) → After hash first (cond b x (refused c number)) t (place c) (ensure b′ number q)
   unfolding ensure refused
-  tested {x = x} {t = t} c true b′ number q e f = subst (λ u. After hash first x t (place c) (ensure u number q)) e (f refl)
-  tested {t = t} c false b′ number q e f = subst (λ u. After hash first (refused c number) t (place c) (ensure u number q)) e (stops refl)
+  tested {x = x} {t = t} c true b′ number q h e f = subst (λ u. After hash first x t (place c) (ensure u number q)) e (f refl)
+  tested {t = t} c false b′ number q h e f = subst (λ u. After hash first (refused c number) t (place c) (ensure u number q)) e (stops h refl)
 
 module _ {hash : List ℕ → Digest} {first : Digest} (c : Core) (t : Tables) where
   -- A section's count: if it is the wanted one, the core x is next. A number: the same, if it is below the modulus. And the parameters.
   pub after-count : {x : Core} (want want′ : ℕ) (q : Process) → want ≡ want′ → After hash first x t (place c) q
       → After hash first (cond (eqb (countOf c) want) x (refused c count-differs)) t (place c) (counting want′ q (take 2 (c .item)))
-  after-count want want′ q e a = tested c _ _ count-differs (λ _. q) (ap (eqb (countOf c)) e) (λ _. a)
+  after-count want want′ q e a = tested c _ _ count-differs (λ _. q) refl (ap (eqb (countOf c)) e) (λ _. a)
 
   pub after-number : {x : Core} (q : ℕ → Process) → (ltb (numberOf c) modulus ≡ true → After hash first x t (place c) (q (numberOf c)))
       → After hash first (cond (ltb (numberOf c) modulus) x (refused c not-below-modulus)) t (place c) (numbered q (take 4 (c .item)))
-  after-number q f = tested c _ _ not-below-modulus (λ _. q (numberOf c)) refl f
+  after-number q f = tested c _ _ not-below-modulus (λ _. q (numberOf c)) refl refl f
 
   pub after-parameters : After hash first (movedTo c RootCount) t (place c) (toSection2 hash (c .params) first)
       → After hash first (afterParameters c) t (place c) (withParameters hash (c .params) first (take headerSize (c .item)))
   unfolding afterParameters
-  after-parameters a = tested c _ _ parameters-differ (λ _. toSection2 hash (c .params) first) refl (λ _. a)
+  after-parameters a = tested c _ _ parameters-differ (λ _. toSection2 hash (c .params) first) refl refl (λ _. a)
 
 module _ {hash : List ℕ → Digest} {first : Digest} (c : Core) (t : Tables) (s : Sound c) where
   -- The tables and the transcript with one root more.

@@ -9,9 +9,9 @@ use native.Mathlib.Omega.{arith}
 use lib.Dec.{ltb}
 use lib.ListN.{length, take, set, length-set}
 use lib.Seq.{take-all, take-suc-set, length-take-le}
-use borrow.Author.Tests.{lt-ltb, le-ltb, le-leb, ltb-true, ltb-false}
+use borrow.Author.Tests.{lt-ltb, le-ltb, le-leb, ltb-true, ltb-false, eqb-true}
 use Rattle.answer.specs.declared.Answer.{Answer}
-use Rattle.answer.specs.Table.{answered, open-so-far, accepted, closed, too-few-bytes, byte-after-the-end}
+use Rattle.answer.specs.Table.{answered, open-so-far, accepted, too-few-bytes, byte-after-the-end, isFault}
 use Rattle.message.specs.Bytes.{joined}
 use Rattle.message.specs.Message.{Digest}
 use Rattle.message.proofs.Bytes.{Sized}
@@ -35,7 +35,7 @@ use Rattle.reader_model.specs.declared.Tables.{Tables}
 use Rattle.reader_model.specs.declared.Reader.{Reader}
 use Rattle.reader_model.specs.State.{itemLength, stopped, closedState, place}
 use Rattle.reader_model.specs.Items.{sane, refused, finals, afterCount, afterQueryCount, afterItem, advanced}
-use Rattle.reader_model.specs.Model.{stored, step, fed, isStopped, isTail, openAnswer, answerOf, pieced, ended, started}
+use Rattle.reader_model.specs.Model.{stored, step, fed, isStopped, isTail, openAnswer, told, answerOf, pieced, ended, started}
 use Rattle.reader_model.proofs.Filled.{challenges}
 use Rattle.reader_model.proofs.Rest.{counting, withParameters, toSection3, toSection4, toQueries, sections-are, Sound, Waiting, At, parameter-count, parameters, root-count, root, coefficient-count, coefficient, query-count, value, sibling, After, goes, stops}
 use Rattle.reader_model.proofs.Rest
@@ -135,7 +135,7 @@ data Stands (hash : List ℕ → Digest) (first : Digest) (r : Reader) : Process
       → Width (need u f) v → r .core .cursor .start + v < 2147483648 → Stands hash first r (need u f) held d
   whole : {d : ℕ} → Sound (r .core) → r .core .stage ≡ Tail → r .core .fill ≡ 0 → r .core .cursor .start ≡ d → d < 2147483648
       → Stands hash first r done [] d
-  refusing : {number d : ℕ} → r .core ≡ stopped (answered number d) → Stands hash first r (fail number) [] d
+  refusing : {number d : ℕ} → isFault number ≡ true → r .core ≡ stopped (answered number d) → Stands hash first r (fail number) [] d
 
 -- What is left after the next item has its width.
 width-after : {u v : ℕ} {f : List ℕ → Process} → Width (need u f) v → (bs : List ℕ) → length bs ≡ u → (v′ : ℕ) × (v ≡ u + v′) × Width (f bs) v′
@@ -153,10 +153,18 @@ unfolding step advanced
 step-last hash r x h e =
     rw (lt-ltb (r .core .fill) (itemLength (r .core .stage)) (omega arith), le-ltb (r .core .fill + 1) (itemLength (r .core .stage)) (omega arith), e)
 
--- A stopped reader stays.
-step-stopped : (hash : List ℕ → Digest) (r : Reader) (x : ℕ) (a : Answer) → r .core ≡ stopped a → step hash r x ≡ r
+-- A stopped reader tells its fault, and stays.
+tells : (number d : ℕ) → isFault number ≡ true → told (answered number d) ≡ answered number d
+unfolding told
+tells number d h = rw h
+
+pub step-stays : (hash : List ℕ → Digest) (r : Reader) (x : ℕ) → isStopped (r .core .stage) ≡ true → step hash r x ≡ r
 unfolding step
-step-stopped hash r x a e = rw e
+step-stays hash r x e = rw (eqb-true (itemLength (r .core .stage)) 0 e, le-ltb (r .core .fill) 0 (omega arith))
+
+pub fold-stays : (hash : List ℕ → Digest) (r : Reader) (xs : List ℕ) → isStopped (r .core .stage) ≡ true → foldl (step hash) r xs ≡ r
+fold-stays hash r [] e = refl
+fold-stays hash r (x ∷ xs) e = ap (λ (s : Reader). foldl (step hash) s xs) (step-stays hash r x e) ∙ fold-stays hash r xs e
 
 -- The item with one byte more.
 stored-sound : (r : Reader) (x : ℕ) → Sound (r .core) → Sound (stored r x .core)
@@ -185,7 +193,7 @@ module _ (hash : List ℕ → Digest) (first : Digest) where
   settle c t d (need u f) v (goes s a e h) w few =
       reads {u = u} {v = v} {d = d} {f = f} {held = []} s a (rw e) (omega (arith, waits hash first (c .stage) u a)) (omega arith) w (omega arith)
   settle c t d done v (Rest.ends s e f h) w few = whole s e f h (omega arith)
-  settle c t d (fail number) v (stops e) w few = refusing e
+  settle c t d (fail number) v (stops h e) w few = refusing h e
 
   -- The first state.
   starts : (p : Params) → Valid p → Stands hash first (started p first) (sections hash p first (λ _. done)) [] 0
@@ -255,13 +263,13 @@ module _ (hash : List ℕ → Digest) (first : Digest) where
       let size : itemLength (r .core .stage) ≡ 1 = ap itemLength tail in
       let ok : sane (stored r x .core) ≡ true = sane-is (stored r x .core) (stored-sound r x s) (omega arith) (omega arith) in
       let there : place (stored r x .core) ≡ suc d = omega arith in
-      refusing
+      refusing refl
       (ap (λ y. y .core) (step-last hash r x (omega arith) ok)
       ∙ ap (λ g. afterItem hash g (stored r x .core) (r .tables) .core) tail
       ∙ ap (λ d. stopped (answered byte-after-the-end d)) there)
 
   stays : {r : Reader} {number d : ℕ} → Stands hash first r (fail number) [] d → (x : ℕ) → step hash r x ≡ r
-  stays {r} {number} {d} (refusing e) x = step-stopped hash r x (answered number d) e
+  stays {r} (refusing h e) x = step-stays hash r x (ap (λ (c : Core). isStopped (c .stage)) e)
 
   -- The answers to a piece and to the end call.
   said : {r : Reader} {q : Process} {d : ℕ} {held : List ℕ} → Stands hash first r q held d → says hash r ≡ pieceAnswer (outcome q [] d) d
@@ -272,7 +280,7 @@ module _ (hash : List ℕ → Digest) (first : Digest) where
   said {r} (whole {d} s tail none e few) =
       let there : place (r .core) ≡ d = omega arith in
       rw (tail, open-is open-so-far (r .core) (omega arith) (omega arith), there)
-  said (refusing e) = rw e
+  said (refusing {number} {d} h e) = rw e (tells number d h)
 
   end-said : {r : Reader} {q : Process} {d : ℕ} {held : List ℕ} → Stands hash first r q held d → endsWith r ≡ endAnswer (outcome q [] d) d
   unfolding ended answerOf outcome endAnswer
@@ -282,7 +290,7 @@ module _ (hash : List ℕ → Digest) (first : Digest) where
   end-said {r} (whole {d} s tail none e few) =
       let there : place (r .core) ≡ d = omega arith in
       rw (tail, open-is accepted (r .core) (omega arith) (omega arith), there)
-  end-said (refusing e) = rw e
+  end-said (refusing {number} {d} h e) = rw e (tells number d h)
 
   -- A state that is reached: it stands for something, and after any bytes for something else.
   pub record Reached (r : Reader) : Type 0 where
@@ -316,7 +324,7 @@ module _ (hash : List ℕ → Digest) (first : Digest) where
       let here = waits hash first (r .core .stage) u a in
       sane-is (r .core) s (omega arith) (omega arith)
   sane-by r done held d (whole s tail none e few) = sane-is (r .core) s (omega arith) (omega arith)
-  sane-by r (fail number) held d (refusing e) = rw e
+  sane-by r (fail number) held d (refusing h e) = rw e
 
   pub reached-sane : {r : Reader} → Reached r → sane (r .core) ≡ true
   reached-sane {r} h = sane-by r (h .process) (h .held) (h .total) (h .stands)
@@ -327,15 +335,15 @@ module _ (hash : List ℕ → Digest) (first : Digest) where
   unfolding pieced fed answerOf outcome pieceAnswer
   refused-by r (need u f) held d h m = absurd (omega (arith, ap (λ a. a .number) (said h)))
   refused-by r done held d h m = absurd (omega (arith, ap (λ a. a .number) (said h)))
-  refused-by r (fail number) held d (refusing e) m = rw e
+  refused-by r (fail number) held d (refusing h e) m = rw e (ap stopped (sym (tells number d h)))
 
   pub refused-core : {r : Reader} → Reached r → accepted < says hash r .number → r .core ≡ stopped (says hash r)
   refused-core {r} h = refused-by r (h .process) (h .held) (h .total) (h .stands)
 
   -- The closed state.
   pub shuts : ShutByte (step hash) (says hash) endsWith closedState
-  unfolding pieced fed ended answerOf
-  shuts = record { stays = λ x. step-stopped hash closedState x (answered closed 0) refl; said = refl; ended = refl }
+  unfolding pieced fed ended told answerOf
+  shuts = record { stays = λ x. step-stays hash closedState x refl; said = refl; ended = refl }
 
   -- The model's states stand for what is left of the judgement.
   pub denotes : (p : Params) → Valid p → Denotes (sections hash p first (λ _. done)) (started p first) (step hash) (says hash) endsWith closedState

@@ -1,12 +1,13 @@
 -- What is claimed of the reader, for every hash, any arguments of the opening and every list of calls: the user's third demand, and what an accepted
 -- file is (the second), as the answers of the reader's own calls.
 use Prim.Native.Nat.{ℕ, _<_}
-use mathlib.Core.Bool.{true, false}
+use mathlib.Core.Bool.{Bool, true, false, _||_}
 use mathlib.Core.List.{List, _++_}
 use mathlib.Core.Logic.{_↔_}
 use mathlib.Core.Path.{_≡_}
 use lib.ListN.{length}
-use Rattle.answer.specs.Table.{answered, open-so-far, accepted, closed}
+use lib.Dec.{eqb}
+use Rattle.answer.specs.Table.{answered, open-so-far, accepted, closed, too-few-bytes, isFault}
 use Rattle.message.specs.Message.{Digest}
 use Rattle.message.specs.Bytes.{Bytes}
 use Rattle.params.specs.declared.Terms.{Terms}
@@ -15,7 +16,7 @@ use Rattle.fri.specs.Process.{run}
 use Rattle.fri.specs.Size.{knownLength}
 use Rattle.fri.specs.Judge.{judgement, pieceAnswer, endAnswer, verdict}
 use Rattle.fri.specs.Accepted.{Accepted}
-use Rattle.calls.specs.Calls.{Call, hasEnd, endsOnce, joined, leaves, given, nth, lastGiven, Refuses, Reader as Calls}
+use Rattle.calls.specs.Calls.{Call, piece, end, hasEnd, endsOnce, joined, leaves, given, nth, lastGiven, Refuses, Reader as Calls}
 use Rattle.calls.specs.Plain.{Table, plain}
 use Rattle.calls.specs.Demand3.{Demand3, PrefixRule, StateRule, SizeRule, toPiece}
 use Rattle.calls.specs.Judged.{tableOf}
@@ -38,6 +39,11 @@ module _ (hash : List ℕ → Digest) (a : Terms) where
     endNext = λ r. ended r .state;
     endAnswer = λ r. ended r .answer;
   }
+
+-- Whether the table has this number for such a call: only a piece can get 0, and only the end call 1 or 26.
+abbrev pub isNumberFor : Call → ℕ → Bool
+isNumberFor (piece bytes) number = isFault number || eqb number closed || eqb number open-so-far
+isNumberFor end number = isFault number || eqb number closed || eqb number too-few-bytes || eqb number accepted
 
 -- An opening that is admitted, and then these calls.
 pub record Opened (hash : List ℕ → Digest) (a : Terms) (cs : List Call) : Type 0 where

@@ -6,7 +6,7 @@ use lib.ListN.{length, set, replicate}
 use lib.Seq.{sets}
 use lib.Dec.{eqb, leb, ltb}
 use Rattle.answer.specs.declared.Answer.{Answer}
-use Rattle.answer.specs.Table.{answered, open-so-far, accepted, closed, too-few-bytes}
+use Rattle.answer.specs.Table.{answered, open-so-far, accepted, closed, too-few-bytes, isFault}
 use Rattle.message.specs.Message.{Digest}
 use Rattle.params.specs.declared.Params.{Params}
 use Rattle.params.specs.declared.Terms.{Terms}
@@ -48,9 +48,13 @@ isTail stage = eqb (itemLength stage) 1
 unfoldable pub openAnswer : ℕ → ℕ → ℕ → Answer
 openAnswer number start fill = cond (leb fill 32 && ltb start 2147483648) (answered number (start + fill)) (answered closed 0)
 
--- The answer of a reader in this state, where an open one answers with this number: a stopped reader keeps its answer.
+-- What a stopped reader tells of the answer that it keeps: the fault, or else that it is closed. So memory of zeros is a closed reader.
+unfoldable pub told : Answer → Answer
+told kept = cond (isFault (kept .number)) kept (answered closed 0)
+
+-- The answer of a reader in this state, where an open one answers with this number.
 unfoldable pub answerOf : Core → ℕ → Answer
-answerOf c number = cond (isStopped (c .stage)) (c .answer) (openAnswer number (c .cursor .start) (c .fill))
+answerOf c number = cond (isStopped (c .stage)) (told (c .answer)) (openAnswer number (c .cursor .start) (c .fill))
 
 -- A reply put together from its parts.
 abbrev pub replied : Answer → Core → List ℕ → List ℕ → List ℕ → Reply

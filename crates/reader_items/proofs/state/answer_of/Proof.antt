@@ -10,9 +10,12 @@ use Rattle.reader_items.proofs.state.answer_of.Tie as tie
 is-stopped-requires : tie.Need-is-stopped-requires
 is-stopped-requires c κs = search needs
 
+tell-requires : tie.Need-tell-requires
+tell-requires c κs = search needs
+
 returns : tie.Need-returns
 unfolding answerOf
-returns c = taken _ (sym (c .before .before .is-stopped .ensures) ∙ c .before .if1 .taken)
+returns c = c .tell .ensures ∙ taken _ (sym (c .before .before .is-stopped .ensures) ∙ c .before .if1 .taken)
 
 open-answer-requires : tie.Need-open-answer-requires
 open-answer-requires c κs = search needs
@@ -22,4 +25,4 @@ unfolding answerOf
 returns-2 c = c .open-answer .ensures ∙ left _ (sym (c .before .before .is-stopped .ensures) ∙ c .before .if1 .left)
 
 pub answer-of-spec : {M : Type 1} → statement M
-answer-of-spec = tie.close (tie.spec is-stopped-requires returns open-answer-requires returns-2)
+answer-of-spec = tie.close (tie.spec is-stopped-requires tell-requires returns open-answer-requires returns-2)
