@@ -22,8 +22,8 @@
  * - where a length is 0 nothing is read or written; pass a pointer that is not null there too, as the type of the proved call asks;
  * - a reader, and each buffer that the writer is lent, is memory that can be written, that no other thread touches during a call, and that overlaps
  *   neither what is read nor another of them;
- * - a reader was opened, and nobody but the calls of this header writes it. A call on any other, one of random bytes too, is safe and returns, but
- *   its answer says nothing about any file.
+ * - a reader was opened, and nobody but the calls of this header writes it. One of zeros is closed. A call on any other, one of random bytes too, is
+ *   safe and answers with a number that the table has for it, but the answer says nothing about any file.
  */
 #ifndef PHIEULAKHON_H
 #define PHIEULAKHON_H
@@ -57,7 +57,7 @@ enum phieulakhon_number {
     PHIEULAKHON_WRITTEN = 0,                  /* by the writer: the proof is in the output */
     PHIEULAKHON_ACCEPTED = 1,                 /* only by the end call and the verdict: the file is a proof that holds */
     PHIEULAKHON_PARAMETERS_NOT_VALID = 10,    /* at opening, and by the writer */
-    PHIEULAKHON_CLOSED = 11,                  /* a call after the end call, or after 10 */
+    PHIEULAKHON_CLOSED = 11,                  /* a call after the end call, or after 10, or on a reader of zeros */
     PHIEULAKHON_NO_SUCH_OPENING = 16,         /* only by the look-up */
     PHIEULAKHON_COUNT_DIFFERS = 20,           /* a section's count */
     PHIEULAKHON_PARAMETERS_DIFFER = 21,       /* section 1 is not the caller's parameters */
@@ -88,8 +88,8 @@ struct phieulakhon_params {
 /* The numbers of one byte that a reader holds: six, and the parameter bytes. */
 enum { PHIEULAKHON_U8S = 6 + sizeof(struct phieulakhon_params) };
 
-/* A reader, about 1 KiB of plain numbers that the caller keeps wherever it likes. Its fields are for the calls only. A reader of zeros answers 0 at 0
- * to every call. */
+/* A reader, about 1 KiB of plain numbers that the caller keeps wherever it likes. Its fields are for the calls only. A reader of zeros, which was never
+ * opened, is closed: it answers 11 at 0 to every call. */
 struct phieulakhon_reader {
     uint8_t u8s[PHIEULAKHON_U8S];
     uint32_t u32s[10];
