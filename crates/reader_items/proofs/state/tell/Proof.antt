@@ -3,7 +3,7 @@
 use mathlib.Core.Path.{sym, _∙_}
 use borrow.Author.Needs.{needs}
 use Rattle.reader_model.specs.Model.{told}
-use Rattle.reader_items.proofs.Laws.{taken, left}
+use Rattle.reader_model.proofs.Choice.{taken, left}
 use Rattle.reader_items.proofs.state.tell.Statement.{statement}
 use Rattle.reader_items.proofs.state.tell.Tie as tie
 
