@@ -1,7 +1,7 @@
 -- Indices in a layer. The index of layer j is m mod 2^(n−1−j), where m is the drawn leaf, the index of layer 0. Assumes nothing.
 use Prim.Native.Nat.{ℕ, suc, _+_, _*_, _^_, _%_, _-_, _<_, _≤_}
 use mathlib.Core.Path.{_≡_, ap, sym, _∙_}
-use native.Mathlib.Nat.{pow-suc, pow-zero, mod-eq-of-lt, mod-lt, mod-one, mod-eq-sub-mod, one-mul, pow-le-pow-right}
+use native.Mathlib.Nat.{pow-suc, pow-zero, mod-eq-of-lt, mod-lt, mod-one, mod-eq-sub-mod}
 use native.Mathlib.Omega.{arith}
 use lib.Pow.{pow-pos, mod-mod-pow}
 use Rattle.domain.specs.Domain.{half}
@@ -32,34 +32,13 @@ wrap m h l k =
     let low : m - h < h = omega arith in
     rw (mod-eq-sub-mod l, mod-eq-of-lt low) (omega arith)
 
--- Half a layer as code has it: a layer that is none has one leaf, a shift computes a small half, and a large one leaves every 32-bit index.
+-- The leaf as code has it: a layer that is none has one leaf, any other 2^(n−j−1).
 pub leaf-none : (n j i : ℕ) → n ≤ j → 0 ≡ i % half n j
 unfolding half
 leaf-none n j i h =
     let none : n - suc j ≡ 0 = omega arith in
     sym (rw (none, pow-zero 2) (mod-one i))
 
-half-bits : (n j : ℕ) → half n j ≡ 2 ^ (n - j - 1)
+pub leaf-made : {r : ℕ} (n j i : ℕ) → r ≡ i % 2 ^ (n - j - 1) → r ≡ i % half n j
 unfolding half
-half-bits n j = ap (λ e. 2 ^ e) (omega arith)
-
-half-shifted : (n j : ℕ) → n - j - 1 < 32 → 1 * 2 ^ (n - j - 1) % 18446744073709551616 ≡ half n j
-half-shifted n j h =
-    let small : 2 ^ (n - j - 1) ≤ 2 ^ 31 = pow-le-pow-right {n = 2} (omega arith) {i = n - j - 1} {j = 31} (omega arith) in
-    rw (half-bits, one-mul) (mod-eq-of-lt (omega arith))
-
-pub half-large : (n j i : ℕ) → 32 ≤ n - j - 1 → i < 2 ^ 32 → i ≡ i % half n j
-half-large n j i h k =
-    let large : 2 ^ 32 ≤ 2 ^ (n - j - 1) = pow-le-pow-right {n = 2} (omega arith) {i = 32} {j = n - j - 1} h in
-    rw half-bits (sym (mod-eq-of-lt (omega arith)))
-
-half-positive : (n j : ℕ) → 0 < half n j
-unfolding half
-half-positive n j = pow-pos (n - suc j)
-
--- The shifted number divides, and leaves the index's leaf.
-pub shifted-positive : (n j : ℕ) → n - j - 1 < 32 → 0 < 1 * 2 ^ (n - j - 1) % 18446744073709551616
-shifted-positive n j h = rw (half-shifted n j h) (half-positive n j)
-
-pub leaf-shifted : (n j i : ℕ) → n - j - 1 < 32 → i % (1 * 2 ^ (n - j - 1) % 18446744073709551616) ≡ i % half n j
-leaf-shifted n j i h = rw (half-shifted n j h)
+leaf-made n j i made = made ∙ ap (λ e. i % 2 ^ e) (omega arith)

@@ -138,7 +138,7 @@ pub fn final_count(p: Params) -> usize
 {
     if is_valid(p) {
         let bits = p.n - p.b - p.k;
-        1usize << bits
+        binary::power_of_two(bits)
     } else {
         0
     }

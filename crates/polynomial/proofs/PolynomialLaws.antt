@@ -10,7 +10,7 @@ use borrow.Author.Tests.{eq-eqb, le-leb, lt-leb, ne-eqb}
 use lib.ListN.{length, take, drop, getD, set, drop-of-length-le, length-append, take-append-drop}
 use lib.Pow.{pow-add}
 use lib.Seq.{append-snoc, drop-cons, getD-append-add, getD-drop, length-take-le, set-at, take-all, take-append-le, take-take}
-use Rattle.params.proofs.ParameterLaws.{power-small, shifted}
+use Rattle.binary.proofs.BinaryLaws.{power-made}
 use Rattle.domain.specs.Domain.{point}
 use Rattle.field.proofs.Laws.{mulMod-assoc, powMod-add, powMod-mul}
 use Rattle.field.specs.Modular.{addMod, mulMod, powMod, generator, subgroupGenerator}
@@ -20,14 +20,12 @@ use Rattle.message.proofs.Tabulate.{tabulate-length, tabulate-snoc}
 use Rattle.message.specs.Lists.{tabulate}
 use Rattle.polynomial.specs.Polynomial.{layerSize, values, isRoom, evaluated, foldedInPlace}
 
--- A layer has at most 2^30 points, and its size is a shift.
-pub size-bound : (n j : ℕ) → n ≤ 30 → layerSize n j ≤ 1073741824
+-- A layer's size as code has it: at most 2^30 points.
+pub size-made : {r : ℕ} (n j : ℕ) → n ≤ 30 → r ≡ 2 ^ (n - j) % 2 ^ 64 → (r ≡ layerSize n j) × (r ≤ 1073741824)
 unfolding layerSize
-size-bound n j h = power-small (n - j) (omega arith)
-
-pub size-shifted : (n j : ℕ) → n ≤ 30 → 1 * 2 ^ (n - j) % 18446744073709551616 ≡ layerSize n j
-unfolding layerSize
-size-shifted n j h = shifted (n - j) (omega arith)
+size-made n j h made =
+    let m = power-made (n - j) (omega arith) made in
+    (m .0, m .1 .1)
 
 -- The root of layer j is the power 2^j of the domain's, so it leads from each point of the layer to the next.
 root-power : (n j : ℕ) → j ≤ n → n ≤ 30 → subgroupGenerator (n - j) ≡ powMod (subgroupGenerator n) (2 ^ j)

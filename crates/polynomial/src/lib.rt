@@ -4,15 +4,6 @@ ghost use Prim.Native.Nat.{_+_, _*_, _≤_};
 ghost use lib.ListN.{length};
 ghost use Rattle.polynomial.specs.Polynomial as spec;
 
-// The number of points of a layer, where n is at most 30 and the layer at most n.
-fn layer_size(n: u8, layer: u8) -> usize
-    requires { ⌜ (layer ≤ n) × (n ≤ 30) ⌝ }
-    ensures { λ r. ⌜ r ≡ spec.layerSize n layer ⌝ }
-{
-    let bits = n - layer;
-    1usize << bits
-}
-
 // Point by point, each point the one before times the root.
 fn evaluate(room: &mut [u32], count: usize, size: usize, n: u8, layer: u8)
     requires { ⌜ ((layer ≤ n) × (n ≤ 30)) × ((count ≤ size) × ((size ≡ spec.layerSize n layer) × (length (now room) ≡ 2 * size))) ⌝ }
@@ -35,7 +26,7 @@ pub fn values(room: &mut [u32], count: usize, n: u8, layer: u8)
 {
     if layer <= n {
         if n <= 30 {
-            let size = layer_size(n, layer);
+            let size = binary::power_of_two(n - layer);
             if count <= size {
                 if room.len() == 2 * size {
                     evaluate(room, count, size, n, layer);

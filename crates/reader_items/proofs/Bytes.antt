@@ -1,15 +1,14 @@
 -- Laws on byte strings that are compared, and on the value that an index names.
 -- Assumes nothing.
-use Prim.Native.Nat.{ℕ, _+_, _*_, _^_, _/_, _%_, _≤_, _<_}
+use Prim.Native.Nat.{ℕ, _+_, _/_, _≤_, _<_}
 use native.Mathlib.Omega.{arith}
-use native.Mathlib.Nat.{mod-eq-of-lt, one-mul, div-eq-of-lt, pow-le-pow-right}
 use mathlib.Core.Path.{_≡_, refl, sym, _∙_, ap}
 use mathlib.Core.Bool.{Bool, true, false}
 use mathlib.Core.List.{List, [], _∷_}
 use lib.ListN.{length, take, drop, getD, length-drop, List·getD-eq-default}
 use lib.Seq.{length-take-le, getD-take, getD-drop, ext-getD}
 use Rattle.params.specs.declared.Params.{Params}
-use Rattle.params.specs.Parameters.{headerSize, header, valuesPerLeaf, height, leafCount}
+use Rattle.params.specs.Parameters.{headerSize, header, valuesPerLeaf, leafCount}
 use Rattle.fri.specs.Judge.{sameBytes, valueAt}
 use Rattle.fri.proofs.Same.{same-self, same-equal}
 
@@ -53,16 +52,6 @@ header-same {h} d p e fits each = sym (rw same (same-self (header p)))
         getD-take headerSize d i 0 l′ ∙ each i l′ ∙ ap (λ (x : List ℕ). getD x i 0) e)
 
 -- Of a leaf's values in an array, the one that an index names, as code works it out.
-pub entry-shifted : {bits : ℕ} (p : Params) (j : ℕ) → bits ≡ height p j → bits < 32 → 1 * 2 ^ bits % 18446744073709551616 ≡ leafCount p j
-entry-shifted {bits} p j e h =
-    let small : 2 ^ bits ≤ 2 ^ 31 = pow-le-pow-right {n = 2} (omega arith) {i = bits} {j = 31} (omega arith) in
-    rw one-mul (mod-eq-of-lt (omega arith)) ∙ ap (λ (k : ℕ). 2 ^ k) e
-
-pub entry-large : {bits : ℕ} (p : Params) (j i : ℕ) → bits ≡ height p j → 32 ≤ bits → i < 2 ^ 32 → 0 ≡ i / leafCount p j
-entry-large {bits} p j i e h l =
-    let large : 2 ^ 32 ≤ 2 ^ height p j = pow-le-pow-right {n = 2} (omega arith) {i = 32} {j = height p j} (omega arith) in
-    sym (div-eq-of-lt (omega arith))
-
 pub names-value : {entry : ℕ} (p : Params) (j m : ℕ) (values : List ℕ) → entry ≡ m / leafCount p j → entry < valuesPerLeaf p
     → getD values entry 0 ≡ valueAt p j m (take (valuesPerLeaf p) values)
 unfolding valueAt

@@ -27,13 +27,7 @@ use reader_model::Walk;
 fn entry_of(p: Params, layer: u8, index: u32) -> u32
     ensures { λ r. ⌜ r ≡ index / leafCount p layer ⌝ }
 {
-    let bits = params::height(p, layer);
-    if bits < 32 {
-        let size = 1u64 << bits;
-        (index as u64 / size) as u32
-    } else {
-        0
-    }
+    binary::high_bits(index, params::height(p, layer) as u8)
 }
 
 // Of the leaf's values, the one that the index names.

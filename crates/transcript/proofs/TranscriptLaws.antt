@@ -1,9 +1,8 @@
 -- The transcript's messages as tagged messages, its numbers, and one root more.
 -- Assumes nothing.
-use Prim.Native.Nat.{ℕ, _+_, _*_, _^_, _%_, _≤_, _<_}
+use Prim.Native.Nat.{ℕ, _+_, _^_, _%_, _≤_}
 use mathlib.Core.List.{List, [], _∷_, _++_, append-nil}
 use mathlib.Core.Path.{_≡_, refl, sym, ap, _∙_}
-use native.Mathlib.Nat.{one-mul, mod-eq-of-lt, pow-le-pow-right}
 use native.Mathlib.Omega.{arith}
 use lib.ListN.{length, take}
 use Rattle.sha256.specs.Sha256.{sha256}
@@ -38,17 +37,6 @@ unfolding drawn
 tagged-drawn s bits i h e v b r =
     let long : length s + 1 ≤ 288 = omega arith in
     rw (r, v, e, b, tagged-short 0x14 s (i ∷ []) long)
-
--- 2^bits as a shift computes it, and a number below it.
-pub shifted : (bits : ℕ) → bits < 32 → 1 * 2 ^ bits % 18446744073709551616 ≡ 2 ^ bits
-shifted bits h =
-    let small : 2 ^ bits ≤ 2 ^ 31 = pow-le-pow-right {n = 2} (omega arith) {i = bits} {j = 31} (omega arith) in
-    rw one-mul (mod-eq-of-lt (omega arith))
-
-pub whole : (v bits : ℕ) → v < 2 ^ 32 → 32 ≤ bits → v ≡ v % 2 ^ bits
-whole v bits h k =
-    let large : 2 ^ 32 ≤ 2 ^ bits = pow-le-pow-right {n = 2} (omega arith) {i = 32} {j = bits} k in
-    sym (mod-eq-of-lt (omega arith))
 
 -- One root more, at the end.
 pub absorbed-snoc : (hash : List ℕ → Digest) (s : Digest) (roots : List Digest) (r : Digest)

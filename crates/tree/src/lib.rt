@@ -14,7 +14,7 @@ fn leaves(height: u8) -> usize
     requires { ⌜ height ≤ 30 ⌝ }
     ensures { λ r. ⌜ (r ≡ 2 ^ height) × ((1 ≤ r) × (r ≤ 1073741824)) ⌝ }
 {
-    1usize << height
+    binary::power_of_two(height)
 }
 
 // The values of leaf m, where so many leaves have so many values each.

@@ -19,7 +19,16 @@ use Rattle.buffer.specs.Buffer.{put}
 use Rattle.buffer.proofs.BufferLaws.{put-fits}
 use Rattle.buffer.proofs.Placed.{take-there}
 use Rattle.field.specs.Modular.{p as modulus}
+use Rattle.polynomial.specs.Polynomial.{layerSize}
 use Rattle.writer.specs.Writer.{allBelow, tested}
+
+-- The sizes at layer 0.
+pub first-count : {r : ℕ} (n : ℕ) → r ≡ 2 ^ (n - 0) → r ≡ 2 ^ n
+first-count n e = e ∙ ap (λ d. 2 ^ d) (omega arith)
+
+pub first-size : {r : ℕ} (n : ℕ) → r ≡ layerSize n 0 → r ≡ 2 ^ n
+unfolding layerSize
+first-size n e = first-count n e
 
 -- A loop that looks for a coefficient that is not below the modulus: a turn, one found, and none found.
 pub below-turn : (l : List ℕ) (i : ℕ) → i < length l → getD l i 0 < modulus → allBelow l ≡ allBelow (drop i l) → allBelow l ≡ allBelow (drop (i + 1) l)

@@ -5,19 +5,12 @@ ghost use Rattle.params.specs.Parameters.{Valid, height, leafCount};
 ghost use Rattle.polynomial.specs.Polynomial.{layerSize};
 use params::Params;
 
-pub fn power(bits: u8) -> usize
-    requires { ⌜ bits ≤ 30 ⌝ }
-    ensures { λ r. ⌜ (r ≡ 2 ^ bits) × (r ≤ 1073741824) ⌝ }
-{
-    1usize << bits
-}
-
 // The number of points of a layer.
 pub fn size_of(p: Params, layer: u8) -> usize
     requires { ⌜ Valid p × (layer ≤ p .k) ⌝ }
     ensures { λ r. ⌜ (r ≡ layerSize (p .n) layer) × (r ≤ 1073741824) ⌝ }
 {
-    power(p.n - layer)
+    binary::power_of_two(p.n - layer)
 }
 
 // The number of coefficients of a layer's polynomial.
@@ -25,7 +18,7 @@ pub fn count_of(p: Params, layer: u8) -> usize
     requires { ⌜ Valid p × (layer ≤ p .k) ⌝ }
     ensures { λ r. ⌜ (r ≡ 2 ^ (p .n - p .b - layer)) × (r ≤ 1073741824) ⌝ }
 {
-    power(p.n - p.b - layer)
+    binary::power_of_two(p.n - p.b - layer)
 }
 
 // The height of a layer's tree, and the number of its leaves.
@@ -40,5 +33,5 @@ pub fn leaves_of(p: Params, layer: u8) -> usize
     requires { ⌜ Valid p × (layer < p .k) ⌝ }
     ensures { λ r. ⌜ (r ≡ leafCount p layer) × ((1 ≤ r) × (r ≤ 1073741824)) ⌝ }
 {
-    power(height_of(p, layer))
+    binary::power_of_two(height_of(p, layer))
 }

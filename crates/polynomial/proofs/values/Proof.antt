@@ -2,20 +2,22 @@
 -- Assumes nothing.
 use native.Mathlib.Omega.{arith}
 use borrow.Author.Needs.{needs}
-use Rattle.polynomial.proofs.PolynomialLaws.{size-bound, no-layer, no-domain, no-count, no-size}
+use Rattle.polynomial.proofs.PolynomialLaws.{size-made, no-layer, no-domain, no-count, no-size}
 use Rattle.polynomial.proofs.values.Statement.{statement}
 use Rattle.polynomial.proofs.values.Tie as tie
 
-layer-size-requires : tie.Need-layer-size-requires
-layer-size-requires c κs = search needs
+power-of-two-requires : tie.Need-power-of-two-requires
+power-of-two-requires c κs = search needs
 
 mul-if4 : tie.Need-mul-if4
 mul-if4 c =
-    let a = c .before .before .before .before .before .args in
-    omega (arith, size-bound (a .n) (a .layer) (search needs))
+    let size = size-made _ _ (search needs) (c .before .power-of-two .ensures) in
+    omega arith
 
 evaluate-requires : tie.Need-evaluate-requires
-evaluate-requires c κs = search needs
+evaluate-requires c κs =
+    let size = size-made _ _ (search needs) (c .before .before .before .power-of-two .ensures) in
+    search needs
 
 same-length : tie.Need-same-length
 same-length c = search needs
@@ -24,10 +26,10 @@ returns : tie.Need-returns
 returns c = search needs
 
 returns-2 : tie.Need-returns-2
-returns-2 c = no-size _ _ _ _ (search needs) (search needs) (c .before .before .layer-size .ensures) (search needs) (c .if4 .left)
+returns-2 c = no-size _ _ _ _ (search needs) (search needs) (size-made _ _ (search needs) (c .before .before .power-of-two .ensures) .0) (search needs) (c .if4 .left)
 
 returns-3 : tie.Need-returns-3
-returns-3 c = no-count _ _ _ _ (search needs) (search needs) (c .before .layer-size .ensures) (search needs)
+returns-3 c = no-count _ _ _ _ (search needs) (search needs) (size-made _ _ (search needs) (c .before .power-of-two .ensures) .0) (search needs)
 
 returns-4 : tie.Need-returns-4
 returns-4 c = search (no-domain, needs)
@@ -39,7 +41,7 @@ pub values-spec : {M : Type 1} → statement M
 values-spec =
     tie.close
     (tie.spec
-    layer-size-requires
+    power-of-two-requires
     mul-if4
     evaluate-requires
     same-length

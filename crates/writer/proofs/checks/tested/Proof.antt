@@ -5,7 +5,7 @@ use native.Mathlib.Omega.{arith}
 use borrow.Author.Needs.{needs}
 use Rattle.params.proofs.ParameterLaws.{from-valid}
 use Rattle.params.proofs.AdmissionLaws.{admitted-valid}
-use Rattle.writer.proofs.WriterLaws.{not-admitted, wrong-count, not-below, few-numbers, few-bytes, short-output, none-fails, upheld, refuted}
+use Rattle.writer.proofs.WriterLaws.{first-count, first-size, not-admitted, wrong-count, not-below, few-numbers, few-bytes, short-output, none-fails, upheld, refuted}
 use Rattle.writer.proofs.checks.tested.Statement.{statement}
 use Rattle.writer.proofs.checks.tested.Tie as tie
 
@@ -15,36 +15,28 @@ admission-requires c κs = search needs
 returns : tie.Need-returns
 returns c = not-admitted _ _ _ _ _ (c .before .admission .ensures) (c .if1 .taken)
 
-sub-power : tie.Need-sub-power
-sub-power c =
-    let v = sym (c .before .before .admission .ensures) ∙ c .before .if1 .left in
-    let facts = admitted-valid _ v in
-    omega arith
-
-power-requires : tie.Need-power-requires
-power-requires c κs =
-    let v = sym (c .before .before .admission .ensures) ∙ c .before .if1 .left in
-    let facts = admitted-valid _ v in
-    omega arith
+count-of-requires : tie.Need-count-of-requires
+count-of-requires c κs =
+    let v = sym (c .before .admission .ensures) ∙ c .if1 .left in
+    (admitted-valid _ v, omega arith)
 
 returns-2 : tie.Need-returns-2
 returns-2 c =
-    let v = sym (c .before .before .before .before .admission .ensures) ∙ c .before .before .before .if1 .left in
-    wrong-count _ _ _ _ _ v (λ e. c .if2 .taken (e ∙ sym (c .before .power .ensures .0)))
+    let v = sym (c .before .before .before .admission .ensures) ∙ c .before .before .if1 .left in
+    wrong-count _ _ _ _ _ v (λ e. c .if2 .taken (e ∙ sym (first-count _ (c .before .count-of .ensures .0))))
 
 all-below-requires : tie.Need-all-below-requires
 all-below-requires c κs = search needs
 
 returns-3 : tie.Need-returns-3
 returns-3 c =
-    let v = sym (c .before .before .before .before .before .before .admission .ensures) ∙ c .before .before .before .before .before .if1 .left in
-    not-below _ _ _ _ _ v (omega (arith, c .before .before .before .power .ensures)) (refuted _ (c .before .all-below .ensures) (c .if3 .taken))
+    let v = sym (c .before .before .before .before .before .admission .ensures) ∙ c .before .before .before .before .if1 .left in
+    not-below _ _ _ _ _ v (omega (arith, first-count _ (c .before .before .before .count-of .ensures .0))) (refuted _ (c .before .all-below .ensures) (c .if3 .taken))
 
-power-requires-2 : tie.Need-power-requires-2
-power-requires-2 c κs =
-    let v = sym (c .before .before .before .before .before .before .admission .ensures) ∙ c .before .before .before .before .before .if1 .left in
-    let facts = admitted-valid _ v in
-    omega arith
+size-of-requires : tie.Need-size-of-requires
+size-of-requires c κs =
+    let v = sym (c .before .before .before .before .before .admission .ensures) ∙ c .before .before .before .before .if1 .left in
+    (admitted-valid _ v, omega arith)
 
 file-length-requires : tie.Need-file-length-requires
 file-length-requires c κs = search needs
@@ -57,23 +49,23 @@ mul-bytes-needed c = search needs
 
 returns-4 : tie.Need-returns-4
 returns-4 c =
-    let v = sym (c .before .before .before .before .before .before .before .before .before .admission .ensures) ∙ c .before .before .before .before .before .before .before .before .if1 .left in
-    few-numbers _ _ _ _ _ v (omega (arith, c .before .before .before .before .before .before .power .ensures)) (upheld _ (c .before .before .before .before .all-below .ensures) (c .before .before .before .if3 .left)) (omega (arith, c .before .before .power2 .ensures))
+    let v = sym (c .before .before .before .before .before .before .before .before .admission .ensures) ∙ c .before .before .before .before .before .before .before .if1 .left in
+    few-numbers _ _ _ _ _ v (omega (arith, first-count _ (c .before .before .before .before .before .before .count-of .ensures .0))) (upheld _ (c .before .before .before .before .all-below .ensures) (c .before .before .before .if3 .left)) (omega (arith, first-size _ (c .before .before .size-of .ensures .0)))
 
 returns-5 : tie.Need-returns-5
 returns-5 c =
-    let v = sym (c .before .before .before .before .before .before .before .before .before .before .admission .ensures) ∙ c .before .before .before .before .before .before .before .before .before .if1 .left in
-    few-bytes _ _ _ _ _ v (omega (arith, c .before .before .before .before .before .before .before .power .ensures)) (upheld _ (c .before .before .before .before .before .all-below .ensures) (c .before .before .before .before .if3 .left)) (omega (arith, c .before .before .before .power2 .ensures)) (omega (arith, c .before .before .before .power2 .ensures))
+    let v = sym (c .before .before .before .before .before .before .before .before .before .admission .ensures) ∙ c .before .before .before .before .before .before .before .before .if1 .left in
+    few-bytes _ _ _ _ _ v (omega (arith, first-count _ (c .before .before .before .before .before .before .before .count-of .ensures .0))) (upheld _ (c .before .before .before .before .before .all-below .ensures) (c .before .before .before .before .if3 .left)) (omega (arith, first-size _ (c .before .before .before .size-of .ensures .0))) (omega (arith, first-size _ (c .before .before .before .size-of .ensures .0)))
 
 returns-6 : tie.Need-returns-6
 returns-6 c =
-    let v = sym (c .before .before .before .before .before .before .before .before .before .before .before .admission .ensures) ∙ c .before .before .before .before .before .before .before .before .before .before .if1 .left in
-    short-output _ _ _ _ _ v (omega (arith, c .before .before .before .before .before .before .before .before .power .ensures)) (upheld _ (c .before .before .before .before .before .before .all-below .ensures) (c .before .before .before .before .before .if3 .left)) (omega (arith, c .before .before .before .before .power2 .ensures)) (omega (arith, c .before .before .before .before .power2 .ensures)) (omega (arith, from-valid _ _ (admitted-valid _ v) (c .before .before .before .file-length .ensures)))
+    let v = sym (c .before .before .before .before .before .before .before .before .before .before .admission .ensures) ∙ c .before .before .before .before .before .before .before .before .before .if1 .left in
+    short-output _ _ _ _ _ v (omega (arith, first-count _ (c .before .before .before .before .before .before .before .before .count-of .ensures .0))) (upheld _ (c .before .before .before .before .before .before .all-below .ensures) (c .before .before .before .before .before .if3 .left)) (omega (arith, first-size _ (c .before .before .before .before .size-of .ensures .0))) (omega (arith, first-size _ (c .before .before .before .before .size-of .ensures .0))) (omega (arith, from-valid _ _ (admitted-valid _ v) (c .before .before .before .file-length .ensures)))
 
 returns-7 : tie.Need-returns-7
 returns-7 c =
-    let v = sym (c .before .before .before .before .before .before .before .before .before .before .before .admission .ensures) ∙ c .before .before .before .before .before .before .before .before .before .before .if1 .left in
-    none-fails _ _ _ _ _ v (omega (arith, c .before .before .before .before .before .before .before .before .power .ensures)) (upheld _ (c .before .before .before .before .before .before .all-below .ensures) (c .before .before .before .before .before .if3 .left)) (omega (arith, c .before .before .before .before .power2 .ensures)) (omega (arith, c .before .before .before .before .power2 .ensures)) (omega (arith, from-valid _ _ (admitted-valid _ v) (c .before .before .before .file-length .ensures)))
+    let v = sym (c .before .before .before .before .before .before .before .before .before .before .admission .ensures) ∙ c .before .before .before .before .before .before .before .before .before .if1 .left in
+    none-fails _ _ _ _ _ v (omega (arith, first-count _ (c .before .before .before .before .before .before .before .before .count-of .ensures .0))) (upheld _ (c .before .before .before .before .before .before .all-below .ensures) (c .before .before .before .before .before .if3 .left)) (omega (arith, first-size _ (c .before .before .before .before .size-of .ensures .0))) (omega (arith, first-size _ (c .before .before .before .before .size-of .ensures .0))) (omega (arith, from-valid _ _ (admitted-valid _ v) (c .before .before .before .file-length .ensures)))
 
 pub tested-spec : {M : Type 1} → statement M
 tested-spec =
@@ -81,12 +73,11 @@ tested-spec =
     (tie.spec
     admission-requires
     returns
-    sub-power
-    power-requires
+    count-of-requires
     returns-2
     all-below-requires
     returns-3
-    power-requires-2
+    size-of-requires
     file-length-requires
     mul-numbers-needed
     mul-bytes-needed

@@ -1,20 +1,18 @@
 -- `writer::sizes::size_of` meets its contract: a layer's size is a power of two.
 -- Assumes nothing.
-use Rattle.polynomial.specs.Polynomial.{layerSize}
+use Rattle.polynomial.proofs.PolynomialLaws.{size-made}
 use borrow.Author.Needs.{needs}
 use Rattle.writer.proofs.sizes.size_of.Statement.{statement}
 use Rattle.writer.proofs.sizes.size_of.Tie as tie
-use Rattle.writer.proofs.sizes.power.Reads as power-reads
 
-sub-power : tie.Need-sub-power
-sub-power c = search needs
+sub-power-of-two : tie.Need-sub-power-of-two
+sub-power-of-two c = search needs
 
-power-requires : tie.Need-power-requires
-power-requires c κs = search needs
+power-of-two-requires : tie.Need-power-of-two-requires
+power-of-two-requires c κs = search needs
 
 returns : tie.Need-returns
-unfolding layerSize
-returns c = c .power .ensures
+returns c = size-made _ _ (search needs) (c .power-of-two .ensures)
 
 pub size-of-spec : {M : Type 1} → statement M
-size-of-spec = tie.close (tie.spec sub-power power-requires returns)
+size-of-spec = tie.close (tie.spec sub-power-of-two power-of-two-requires returns)
