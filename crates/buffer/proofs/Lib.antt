@@ -1,3 +1,2 @@
--- What lent buffers hold: turn by turn, and part by part.
+-- What lent buffers hold, turn by turn.
 pub mod BufferLaws
-pub mod Placed

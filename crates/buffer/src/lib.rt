@@ -1,9 +1,8 @@
-// Lent buffers: bytes and numbers put at a place, and buffers cleared. What does not fit is not put, not even in part.
+// Lent buffers: bytes put at a place, numbers to the front, and buffers cleared. What does not fit is not put, not even in part.
 ghost use mathlib.Core.Path.{_≡_};
 ghost use Prim.Native.Nat.{_+_, _≤_};
 ghost use lib.ListN.{length};
 ghost use lib.Seq.{sets};
-ghost use Rattle.message.specs.Bytes.{le};
 ghost use Rattle.buffer.specs.Buffer as spec;
 
 // Copies a part that fits.
@@ -26,22 +25,6 @@ pub fn put(buffer: &mut [u8], at: usize, part: &[u8])
             copy(buffer, at, part);
         }
     }
-}
-
-// A section's count, as 2 bytes.
-pub fn put_count(buffer: &mut [u8], at: usize, count: usize)
-    ensures { λ _. ⌜ now (buffer .exit) ≡ spec.put (now (buffer .entry)) at (le 2 count) ⌝ }
-{
-    let two = [(count % 256) as u8, (count / 256 % 256) as u8];
-    put(buffer, at, &two);
-}
-
-// A field number, as 4 bytes.
-pub fn put_number(buffer: &mut [u8], at: usize, v: u32)
-    ensures { λ _. ⌜ now (buffer .exit) ≡ spec.put (now (buffer .entry)) at (le 4 v) ⌝ }
-{
-    let four = message::number_bytes(v);
-    put(buffer, at, &four);
 }
 
 // Copies numbers to the front.

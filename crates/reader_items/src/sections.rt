@@ -67,12 +67,7 @@ fn put_root(roots: &mut [u8; ROOTS], layer: usize, root: [u8; 32])
     requires { ⌜ layer < 16 ⌝ }
     ensures { λ _. ⌜ now (roots .exit) ≡ sets (now (roots .entry)) (32 * layer) root ⌝ }
 {
-    let at = 32 * layer;
-    let mut i = 0;
-    while i < 32 {
-        roots[at + i] = root[i];
-        i += 1;
-    }
+    buffer::put(roots, 32 * layer, &root);
 }
 
 // A root is absorbed before its challenge is drawn; both are kept.

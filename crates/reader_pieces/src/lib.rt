@@ -71,7 +71,7 @@ fn least(a: usize, b: usize) -> usize
     if a < b { a } else { b }
 }
 
-// The first n bytes of a piece go into the item's buffer, from index at on.
+// The first n bytes of a piece go into the item's buffer, from index at on. A loop of its own: the tests of `buffer::put` cost 3 to 8 instructions a piece.
 fn copy(item: &mut [u8; 32], at: usize, bytes: &[u8], n: usize)
     requires { ⌜ (at + n ≤ 32) × (n ≤ length (now bytes)) ⌝ }
     ensures { λ _. ⌜ now (item .exit) ≡ sets (now (item .entry)) at (take n (now (bytes .entry))) ⌝ }

@@ -20,7 +20,7 @@ use Rattle.merkle.proofs.Opens.{leaf-all, above-length, sibling-below}
 use Rattle.message.proofs.Tabulate.{tabulate-length, tabulate-sized}
 use Rattle.buffer.specs.Buffer.{put}
 use Rattle.buffer.proofs.BufferLaws.{put-fits, put-stays}
-use Rattle.buffer.proofs.Placed.{part-length, part-drop, take-before, sets-behind}
+use Rattle.message.proofs.Placed.{part-length, part-drop, take-before, sets-behind}
 use Rattle.tree.specs.Tree.{isLayer, treeSize, isTreeSize, leafRow, leavesPut, rows, treeOver, rootOver, siblingsIn, isPath, pathPut}
 use Rattle.tree.proofs.TreeLaws.{joined-digests, digests-length, row-read, size-even}
 use Rattle.tree.proofs.Size.{above-sized}

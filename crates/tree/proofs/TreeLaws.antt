@@ -20,7 +20,7 @@ use Rattle.message.specs.Lists.{tabulate}
 use Rattle.message.proofs.Tabulate.{tabulate-length, tabulate-snoc, tabulate-sized}
 use Rattle.buffer.specs.Buffer.{put}
 use Rattle.buffer.proofs.BufferLaws.{put-fits}
-use Rattle.buffer.proofs.Placed.{part-length, part-drop, part-before, drop-sets, sets-behind, sets-all}
+use Rattle.message.proofs.Placed.{part-length, part-drop, part-before, drop-sets, sets-behind, sets-all}
 use Rattle.tree.specs.Tree.{treeSize, valuesOf, leafRow}
 
 -- Digests stored in l one after the other, from index at on: one digest more, and a loop's turn that puts it.

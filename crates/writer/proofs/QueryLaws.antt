@@ -18,14 +18,15 @@ use Rattle.sha256.specs.Sha256.{sha256}
 use Rattle.message.specs.Bytes.{le, part, joined, words}
 use Rattle.message.specs.Message.{Digest}
 use Rattle.message.proofs.Bytes.{le-length, joined-snoc}
-use Rattle.message.proofs.MessageLaws.{sets-append, words-length, words-append, words-one}
+use Rattle.buffer.proofs.BufferLaws.{sets-append}
+use Rattle.message.proofs.MessageLaws.{words-length, words-append, words-one}
 use Rattle.domain.specs.Domain.{half}
 use Rattle.transcript.specs.Transcript.{drawn}
 use Rattle.message.specs.Lists.{tabulate}
 use Rattle.message.proofs.Tabulate.{tabulate-length, tabulate-snoc}
 use Rattle.buffer.specs.Buffer.{put}
 use Rattle.buffer.proofs.BufferLaws.{put-fits}
-use Rattle.buffer.proofs.Placed.{part-length, sets-behind}
+use Rattle.message.proofs.Placed.{part-length, sets-behind}
 use Rattle.polynomial.specs.Polynomial.{layerSize}
 use Rattle.tree.specs.Tree.{valuesOf, treeSize, siblingsIn, isPath, pathPut}
 use Rattle.tree.proofs.Rows.{siblings-length, size-yes}

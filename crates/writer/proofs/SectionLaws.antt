@@ -5,7 +5,7 @@ use mathlib.Core.Path.{_≡_, ap, ap₂, _∙_}
 use native.Mathlib.Omega.{arith}
 use lib.ListN.{length, take}
 use lib.Pow.{pow-mono}
-use lib.Seq.{sets, length-sets}
+use lib.Seq.{sets, length-sets, length-take-le}
 use Rattle.sha256.specs.Sha256.{sha256}
 use Rattle.sha256.proofs.HashLaws.{length-sha256, sha256-byte}
 use Rattle.params.specs.declared.Params.{Params}
@@ -14,6 +14,7 @@ use Rattle.params.proofs.ParameterLaws.{from-valid}
 use Rattle.message.specs.Bytes.{le, words}
 use Rattle.message.specs.Message.{Digest}
 use Rattle.message.proofs.Bytes.{le-length}
+use Rattle.message.proofs.MessageLaws.{words-length}
 use Rattle.transcript.specs.Transcript.{start, finish}
 use Rattle.buffer.specs.Buffer.{put}
 use Rattle.buffer.proofs.BufferLaws.{put-fits}
@@ -43,17 +44,19 @@ head-left {b} {d₁} {d₂} {d₃} p f h e e₁ e₂ e₃ =
     e₃ ∙ put-fits d₂ rootCountOffset (le 2 (p .k)) (omega (arith, le-length 2 (p .k))) ∙ ap (λ d. sets d rootCountOffset (le 2 (p .k))) (second ∙ ap (λ d. sets d 2 (header p)) first)
 
 pub finish-left : {d₁ d₂ : List ℕ} {s₁ : Digest} {count at : ℕ} (p : Params) (s : Digest) (numbers f a : List ℕ) → Valid p → queriesOffset p ≤ length f
-    → count ≡ ifValid p (finalCount p) → at ≡ finalCountOffset p → d₁ ≡ put f at (le 2 count) → d₂ ≡ sets d₁ (at + 2) (words (take count numbers))
+    → count ≡ ifValid p (finalCount p) → at ≡ finalCountOffset p → d₁ ≡ put f at (le 2 count) → finalCount p ≤ length numbers → d₂ ≡ put d₁ (at + 2) (words (take count numbers))
     → take count a ≡ take count numbers → s₁ ≡ finish sha256 s (take count a)
     → (s₁ ≡ finish sha256 s (take (finalCount p) numbers))
     × (d₂ ≡ sets (sets f (finalCountOffset p) (le 2 (finalCount p))) (coefficientOffset p 0) (words (take (finalCount p) numbers)))
 unfolding queriesOffset
-finish-left {d₁} {d₂} {s₁} {count} {at} p s numbers f a v h e e₀ e₁ e₂ e₃ e₄ =
+finish-left {d₁} {d₂} {s₁} {count} {at} p s numbers f a v h e e₀ e₁ enough e₂ e₃ e₄ =
     let full : count ≡ finalCount p = from-valid p (finalCount p) v e in
     let first : d₁ ≡ sets f (finalCountOffset p) (le 2 (finalCount p)) = e₁ ∙ put-fits f at (le 2 count) (omega (arith, le-length 2 count)) ∙ ap₂ (λ i c. sets f i (le 2 c)) e₀ full in
-    let there : at + 2 ≡ coefficientOffset p 0 = omega arith in (
+    let there : at + 2 ≡ coefficientOffset p 0 = omega arith in
+    let long : length (words (take count numbers)) ≡ 4 * count = words-length (take count numbers) ∙ ap (λ k. 4 * k) (length-take-le count numbers (omega arith)) in
+    let same : length d₁ ≡ length f = ap length first ∙ length-sets f (finalCountOffset p) (le 2 (finalCount p)) in (
       e₄ ∙ ap (finish sha256 s) (e₃ ∙ ap (λ c. take c numbers) full),
-      e₂ ∙ ap₂ (λ d i. sets d i (words (take count numbers))) first there ∙ ap (λ c. sets (sets f (finalCountOffset p) (le 2 (finalCount p))) (coefficientOffset p 0) (words (take c numbers))) full,
+      e₂ ∙ put-fits d₁ (at + 2) (words (take count numbers)) (omega arith) ∙ ap₂ (λ d i. sets d i (words (take count numbers))) first there ∙ ap (λ c. sets (sets f (finalCountOffset p) (le 2 (finalCount p))) (coefficientOffset p 0) (words (take c numbers))) full,
     )
 
 pub openings-left : {d₁ d₂ : List ℕ} {count at : ℕ} (p : Params) (s : Digest) (numbers bytes f : List ℕ) → Valid p → fileLength p ≤ length f

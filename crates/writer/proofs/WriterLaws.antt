@@ -12,12 +12,9 @@ use lib.Seq.{sets, drop-cons, length-take-le}
 use Rattle.params.specs.declared.Params.{Params}
 use Rattle.params.specs.Parameters.{fileLength}
 use Rattle.params.specs.Admission.{admission}
-use Rattle.message.specs.Bytes.{le, words}
-use Rattle.message.proofs.Bytes.{le-length}
-use Rattle.message.proofs.MessageLaws.{words-more}
 use Rattle.buffer.specs.Buffer.{put}
 use Rattle.buffer.proofs.BufferLaws.{put-fits}
-use Rattle.buffer.proofs.Placed.{take-there}
+use Rattle.message.proofs.Placed.{take-there}
 use Rattle.field.specs.Modular.{p as modulus}
 use Rattle.polynomial.specs.Polynomial.{layerSize}
 use Rattle.writer.specs.Writer.{allBelow, tested}
@@ -48,12 +45,6 @@ pub array-front : {r : List ℕ} (d s : List ℕ) (n : ℕ) → n ≤ length d �
 array-front d s n h k e =
     let long : length (take n s) ≡ n = length-take-le n s k in
     ap (take n) (e ∙ put-fits d 0 (take n s) (omega arith)) ∙ take-there d (take n s) n long h
-
--- A loop that puts the first numbers into a file, each in 4 bytes.
-pub final-more : {d e : List ℕ} (l s : List ℕ) (at i : ℕ) → d ≡ sets l at (words (take i s)) → e ≡ put d (at + 4 * i) (le 4 (getD s i 0)) → i < length s
-    → at + 4 * i + 4 ≤ length d → e ≡ sets l at (words (take (i + 1) s))
-final-more {d} {e} l s at i q r h k =
-    r ∙ put-fits d (at + 4 * i) (le 4 (getD s i 0)) (omega (arith, le-length 4 (getD s i 0))) ∙ words-more l s at i q h refl
 
 -- What a test by `!` says of the call that it turns round.
 pub refuted : {b : Bool} (r : Bool) → r ≡ b → not r ≡ true → b ≡ false

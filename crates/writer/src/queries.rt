@@ -19,7 +19,7 @@ fn put_values(per: usize, count: usize, values: &[u32], m: usize, file: &mut [u8
     let mut from = m;
     let mut r = 0;
     while r < per {
-        buffer::put_number(file, at + 4 * r, values[from]);
+        message::put_number(file, at + 4 * r, values[from]);
         from += count;
         r += 1;
     }

@@ -22,27 +22,15 @@ fn final_of(numbers: &[u32], count: usize) -> [u32; 64]
     r
 }
 
-// The first count numbers, each in 4 bytes.
-fn put_final(file: &mut [u8], at: usize, numbers: &[u32], count: usize)
-    requires { ⌜ (count ≤ length (now numbers)) × (at + 4 * count ≤ length (now file)) ⌝ }
-    ensures { λ _. ⌜ now (file .exit) ≡ sets (now (file .entry)) at (words (take count (now (numbers .entry)))) ⌝ }
-{
-    let mut i = 0;
-    while i < count {
-        buffer::put_number(file, at + 4 * i, numbers[i]);
-        i += 1;
-    }
-}
-
 // Section 1, and section 2's count.
 fn head(p: Params, file: &mut [u8])
     requires { ⌜ rootOffset 0 ≤ length (now file) ⌝ }
     ensures { λ _. ⌜ now (file .exit) ≡ spec.headIn p (now (file .entry)) ⌝ }
 {
     let bytes = params::header(p);
-    buffer::put_count(file, 0, params::HEADER_SIZE);
+    message::put_count(file, 0, params::HEADER_SIZE);
     buffer::put(file, 2, &bytes);
-    buffer::put_count(file, params::ROOT_COUNT_OFFSET, p.k as usize);
+    message::put_count(file, params::ROOT_COUNT_OFFSET, p.k as usize);
 }
 
 // Section 3: the final coefficients, and the transcript that has absorbed them.
@@ -53,8 +41,8 @@ fn finish(p: Params, s: Transcript, numbers: &[u32], file: &mut [u8]) -> Transcr
 {
     let count = params::final_count(p);
     let at = params::root_offset(p.k);
-    buffer::put_count(file, at, count);
-    put_final(file, at + 2, numbers, count);
+    message::put_count(file, at, count);
+    message::put_words(file, at + 2, &numbers[..count]);
     s.absorb_final(final_of(numbers, count), count)
 }
 
@@ -63,7 +51,7 @@ fn openings(p: Params, s: Transcript, numbers: &[u32], bytes: &[u8], file: &mut 
     requires { ⌜ Valid p × ((2 * 2 ^ p .n ≤ length (now numbers)) × ((64 * 2 ^ p .n ≤ length (now bytes)) × (fileLength p ≤ length (now file)))) ⌝ }
     ensures { λ _. ⌜ now (file .exit) ≡ sets (sets (now (file .entry)) (queryCountOffset p) (le 2 (p .q))) (queriesOffset p) (spec.queriesIn p sha256 (s .state) (now (numbers .entry)) (now (bytes .entry))) ⌝ }
 {
-    buffer::put_count(file, params::query_count_offset(p), p.q as usize);
+    message::put_count(file, params::query_count_offset(p), p.q as usize);
     let at = params::queries_offset(p);
     crate::queries::queries(p, s, numbers, bytes, file, at);
 }

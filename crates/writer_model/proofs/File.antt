@@ -13,7 +13,7 @@ use Rattle.message.specs.Bytes.{le, joined, words}
 use Rattle.message.specs.Message.{Digest}
 use Rattle.message.proofs.Bytes.{le-length, sized, joined-length}
 use Rattle.message.proofs.MessageLaws.{words-length}
-use Rattle.buffer.proofs.Placed.{sets-behind, sets-all}
+use Rattle.message.proofs.Placed.{sets-behind, sets-all}
 use Rattle.fri.specs.Encoding.{Proof, queryBytes, encode, HasLayout}
 use Rattle.fri.proofs.Exactly.{accepted-length}
 use Rattle.built.specs.Built.{build, builtFile}

@@ -22,7 +22,7 @@ use Rattle.fold.specs.Poly.{fold}
 use Rattle.fold.proofs.FoldCheck.{fold-length}
 use Rattle.message.specs.Lists.{tabulate}
 use Rattle.message.proofs.Tabulate.{tabulate-length, tabulate-at, tabulate-same, tabulate-sized}
-use Rattle.buffer.proofs.Placed.{part-after, part-there, take-before, take-there}
+use Rattle.message.proofs.Placed.{part-after, part-there, take-before, take-there}
 use Rattle.polynomial.specs.Polynomial.{layerSize, values}
 use Rattle.tree.specs.Tree.{valuesOf, leafRow, rows, treeSize}
 use Rattle.tree.proofs.TreeLaws.{blocks-more}

@@ -4,7 +4,7 @@ use Prim.Native.Nat.{_≤_, _-_}
 use mathlib.Core.Path.{_≡_, refl}
 use lib.ListN.{length, take}
 use lib.Seq.{sets}
-use Rattle.message.proofs.MessageLaws.{copy-more, copy-done}
+use Rattle.buffer.proofs.BufferLaws.{copy-more, copy-done}
 use borrow.Author.Needs.{needs}
 use Rattle.buffer.proofs.copy.Statement.{statement}
 use Rattle.buffer.proofs.copy.Tie as tie

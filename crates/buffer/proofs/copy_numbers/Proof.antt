@@ -4,8 +4,7 @@ use Prim.Native.Nat.{_≤_, _-_}
 use mathlib.Core.Path.{_≡_, refl}
 use lib.ListN.{length, take}
 use lib.Seq.{sets}
-use Rattle.message.proofs.MessageLaws.{copy-done}
-use Rattle.buffer.proofs.BufferLaws.{front-more}
+use Rattle.buffer.proofs.BufferLaws.{copy-done, front-more}
 use borrow.Author.Needs.{needs}
 use Rattle.buffer.proofs.copy_numbers.Statement.{statement}
 use Rattle.buffer.proofs.copy_numbers.Tie as tie

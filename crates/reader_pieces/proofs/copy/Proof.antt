@@ -6,7 +6,7 @@ use native.Mathlib.Omega.{arith}
 use borrow.Author.Needs.{needs}
 use lib.ListN.{length, take}
 use lib.Seq.{sets}
-use Rattle.message.proofs.MessageLaws.{copy-more}
+use Rattle.buffer.proofs.BufferLaws.{copy-more}
 use Rattle.reader_items.proofs.Laws.{copy-stop}
 use Rattle.reader_pieces.proofs.copy.Statement.{statement}
 use Rattle.reader_pieces.proofs.copy.Tie as tie

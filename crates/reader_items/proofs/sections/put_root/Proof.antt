@@ -1,68 +1,26 @@
--- `reader::sections::put_root` meets its contract: after i turns the first i bytes of the root are stored.
+-- `reader::sections::put_root` meets its contract: the root fits.
 -- Assumes nothing.
-use Prim.Native.Nat.{_≤_, _<_, _-_}
-use mathlib.Core.Path.{_≡_, refl}
+use mathlib.Core.Path.{_≡_, _∙_}
 use native.Mathlib.Omega.{arith}
-use lib.ListN.{length, take}
-use lib.Seq.{sets}
-use Rattle.message.proofs.MessageLaws.{copy-more, copy-done}
+use lib.ListN.{length}
+use Rattle.buffer.proofs.BufferLaws.{put-fits}
 use borrow.Author.Needs.{needs}
 use Rattle.reader_items.proofs.sections.put_root.Statement.{statement}
 use Rattle.reader_items.proofs.sections.put_root.Tie as tie
 
-abbrev Inv-loop : tie.InvT-loop
-Inv-loop roots₀ layer root at i₀ roots i = (i ≤ 32) × (roots ≡ sets roots₀ at (take i root))
+mul-put : tie.Need-mul-put
+mul-put c = search needs
 
-abbrev μ-loop : tie.MeasureT-loop
-μ-loop roots₀ layer root at i₀ roots i = 32 - i
+slice-aggregate-put : tie.Need-slice-aggregate-put
+slice-aggregate-put c = search needs
 
-mul-at : tie.Need-mul-at Inv-loop μ-loop
-mul-at c = search needs
+put-requires : tie.Need-put-requires
+put-requires c κs = search needs
 
-loop-holds : tie.Need-loop-holds Inv-loop μ-loop
-loop-holds c = (search needs, refl)
-
-array-read-roots : tie.Need-array-read-roots Inv-loop μ-loop
-array-read-roots c = search needs
-
-add-roots : tie.Need-add-roots Inv-loop μ-loop
-add-roots c = search needs
-
-element-write-roots : tie.Need-element-write-roots Inv-loop μ-loop
-element-write-roots c = omega (arith, c .before .before .pre)
-
-add-i : tie.Need-add-i Inv-loop μ-loop
-add-i c = search needs
-
-loop-less : tie.Need-loop-less Inv-loop μ-loop
-loop-less c = search needs
-
-loop-again : tie.Need-loop-again Inv-loop μ-loop
-loop-again c =
-    let root = c .before .before .args .t3 in
-    let long : length root ≡ 32 = search needs in
-    let inside : c .before .loop .i < length root = omega arith in
-    (search needs, copy-more _ _ _ _ (c .before .loop .inv .1) inside)
-
-returns : tie.Need-returns Inv-loop μ-loop
+returns : tie.Need-returns
 returns c =
-    let root = c .before .before .args .t3 in
-    let long : length root ≡ 32 = search needs in
-    let past : length root ≤ c .before .loop .i = omega arith in
-    copy-done _ _ _ _ (c .before .loop .inv .1) past
+    let long : length (c .before .before .before .args .t3) ≡ 32 = search needs in
+    c .put .ensures ∙ put-fits _ _ _ (omega (arith, c .before .before .put-arg .given .0 .1))
 
 pub put-root-spec : {M : Type 1} → statement M
-put-root-spec =
-    tie.close
-    (tie.spec
-    Inv-loop
-    μ-loop
-    mul-at
-    loop-holds
-    array-read-roots
-    add-roots
-    element-write-roots
-    add-i
-    loop-less
-    loop-again
-    returns)
+put-root-spec = tie.close (tie.spec mul-put slice-aggregate-put put-requires returns)

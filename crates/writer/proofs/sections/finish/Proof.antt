@@ -1,9 +1,11 @@
 -- `writer::sections::finish` meets its contract: the count and the coefficients are put, and absorbed.
 -- Assumes nothing.
+use mathlib.Core.Path.{sym}
 use denote.Ref.{now}
 use native.Mathlib.Omega.{arith}
 use borrow.Author.Needs.{needs}
-use Rattle.params.specs.Parameters.{finalCount, queriesOffset}
+use lib.Seq.{length-take-le}
+use Rattle.params.specs.Parameters.{finalCount}
 use Rattle.params.proofs.ParameterLaws.{final-small, from-valid}
 use Rattle.writer.proofs.SectionLaws.{finish-left}
 use Rattle.writer.proofs.sections.finish.Statement.{statement}
@@ -18,20 +20,22 @@ root-offset-requires c κs = search needs
 put-count-requires : tie.Need-put-count-requires
 put-count-requires c κs = search needs
 
-add-put-final : tie.Need-add-put-final
-add-put-final c = search needs
+add-put-words : tie.Need-add-put-words
+add-put-words c = search needs
 
-put-final-requires : tie.Need-put-final-requires
-unfolding queriesOffset
-put-final-requires c κs =
-    let a = c .before .before .before .before .before .before .before .before .before .args in
-    let full = from-valid (a .p) (finalCount (a .p)) (search needs) (c .before .before .before .before .before .before .final-count .ensures) in
-    (omega (arith, full), omega (arith, full))
+slice-aggregate-put-words : tie.Need-slice-aggregate-put-words
+slice-aggregate-put-words c =
+    let a = c .before .before .before .before .before .before .before .before .before .before .args in
+    let full = from-valid (a .p) (finalCount (a .p)) (search needs) (c .before .before .before .before .before .before .before .final-count .ensures) in
+    sym (length-take-le _ _ (omega (arith, full)))
+
+put-words-requires : tie.Need-put-words-requires
+put-words-requires c κs = search needs
 
 final-of-requires : tie.Need-final-of-requires
 final-of-requires c κs =
-    let a = c .before .before .before .before .before .before .before .before .before .before .before .before .args in
-    let full = from-valid (a .p) (finalCount (a .p)) (search needs) (c .before .before .before .before .before .before .before .before .before .final-count .ensures) in
+    let a = c .before .before .before .before .before .before .before .before .before .before .before .before .before .args in
+    let full = from-valid (a .p) (finalCount (a .p)) (search needs) (c .before .before .before .before .before .before .before .before .before .before .final-count .ensures) in
     (omega (arith, full, final-small (a .p) (search needs)), omega (arith, full))
 
 absorb-final-requires : tie.Need-absorb-final-requires
@@ -42,8 +46,8 @@ same-length c = search needs
 
 returns : tie.Need-returns
 returns c =
-    let a = c .before .before .before .before .before .before .before .before .before .before .before .before .before .before .args in
-    finish-left (a .p) (a .s .state) (now (a .numbers)) (now (a .file)) _ (search needs) (search needs) (c .before .before .before .before .before .before .before .before .before .before .before .final-count .ensures) (c .before .before .before .before .before .before .before .before .before .before .root-offset .ensures) (c .before .before .before .before .before .before .before .before .put-count .ensures) (c .before .before .before .before .put-final .ensures) (c .before .final-of .ensures) (c .absorb-final .ensures)
+    let a = c .before .before .before .before .before .before .before .before .before .before .before .before .before .before .before .args in
+    finish-left (a .p) (a .s .state) (now (a .numbers)) (now (a .file)) _ (search needs) (search needs) (c .before .before .before .before .before .before .before .before .before .before .before .before .final-count .ensures) (c .before .before .before .before .before .before .before .before .before .before .before .root-offset .ensures) (c .before .before .before .before .before .before .before .before .before .put-count .ensures) (search needs) (c .before .before .before .before .put-words .ensures) (c .before .final-of .ensures) (c .absorb-final .ensures)
 
 pub finish-spec : {M : Type 1} → statement M
 finish-spec =
@@ -52,8 +56,9 @@ finish-spec =
     final-count-requires
     root-offset-requires
     put-count-requires
-    add-put-final
-    put-final-requires
+    add-put-words
+    slice-aggregate-put-words
+    put-words-requires
     final-of-requires
     absorb-final-requires
     same-length

@@ -1,9 +1,9 @@
--- `buffer::put_count` meets its contract: the bytes that are put are the number's, low byte first.
+-- `message::put_count` meets its contract: the bytes that are put are the number's, low byte first.
 -- Assumes nothing.
 use Rattle.message.specs.Bytes.{le}
 use borrow.Author.Needs.{needs}
-use Rattle.buffer.proofs.put_count.Statement.{statement}
-use Rattle.buffer.proofs.put_count.Tie as tie
+use Rattle.message.proofs.put_count.Statement.{statement}
+use Rattle.message.proofs.put_count.Tie as tie
 
 cast-t6 : tie.Need-cast-t6
 cast-t6 c = search needs

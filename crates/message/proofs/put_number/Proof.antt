@@ -1,10 +1,10 @@
--- `buffer::put_number` meets its contract: the bytes that are put are the number's, low byte first.
+-- `message::put_number` meets its contract: the bytes that are put are the number's, low byte first.
 -- Assumes nothing.
 use mathlib.Core.Path.{ap, _∙_}
 use Rattle.buffer.specs.Buffer.{put}
 use borrow.Author.Needs.{needs}
-use Rattle.buffer.proofs.put_number.Statement.{statement}
-use Rattle.buffer.proofs.put_number.Tie as tie
+use Rattle.message.proofs.put_number.Statement.{statement}
+use Rattle.message.proofs.put_number.Tie as tie
 
 number-bytes-requires : tie.Need-number-bytes-requires
 number-bytes-requires c κs = search needs

@@ -6,8 +6,8 @@ use mathlib.Core.Path.{_≡_, refl, sym, ap, _∙_}
 use native.Mathlib.Omega.{arith}
 use lib.ListN.{length, take, drop, set, length-drop}
 use lib.Seq.{sets, sets-eq, take-at, drop-at, drop-drop, drop-length, length-take-le, take-set-le, drop-set-lt, drop-set-add}
 use Rattle.message.specs.Bytes.{part}
-use Rattle.message.proofs.MessageLaws.{sets-append}
+use Rattle.buffer.proofs.BufferLaws.{sets-append}
 
 -- A part has its length, if the list goes that far.
 pub part-length : (i n : ℕ) (xs : List ℕ) → i + n ≤ length xs → length (part i n xs) ≡ n

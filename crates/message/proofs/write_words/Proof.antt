@@ -1,4 +1,4 @@
--- `writer::sections::put_final` meets its contract: after i turns the first i numbers stand in the file.
+-- `message::write_words` meets its contract: after i turns the first i numbers are stored.
 -- Assumes nothing.
 use Prim.Native.Nat.{_≤_, _-_}
 use mathlib.Core.Path.{_≡_, refl}
@@ -6,17 +6,16 @@ use borrow.Author.Needs.{needs}
 use native.Mathlib.Omega.{arith}
 use lib.ListN.{length, take}
 use lib.Seq.{sets}
 use Rattle.message.specs.Bytes.{words, joined}
-use Rattle.writer.proofs.WriterLaws.{final-more}
-use Rattle.writer.proofs.sections.put_final.Statement.{statement}
-use Rattle.writer.proofs.sections.put_final.Tie as tie
-use Rattle.buffer.proofs.put_number.Reads as put-number-reads
+use Rattle.message.proofs.MessageLaws.{words-more, words-done}
+use Rattle.message.proofs.write_words.Statement.{statement}
+use Rattle.message.proofs.write_words.Tie as tie
 
 abbrev Inv-loop : tie.InvT-loop
-Inv-loop file₀ at numbers count i₀ file i = (i ≤ count) × ((length file ≡ length file₀) × (file ≡ sets file₀ at (words (take i numbers))))
+Inv-loop buffer₀ at values i₀ buffer i = (i ≤ length values) × ((length buffer ≡ length buffer₀) × (buffer ≡ sets buffer₀ at (words (take i values))))
 
 abbrev μ-loop : tie.MeasureT-loop
-μ-loop file₀ at numbers count i₀ file i = count - i
+μ-loop buffer₀ at values i₀ buffer i = length values - i
 
 loop-holds : tie.Need-loop-holds Inv-loop μ-loop
 unfolding words joined
@@ -46,18 +45,16 @@ loop-less c = search needs
 loop-again : tie.Need-loop-again Inv-loop μ-loop
 loop-again c =
     let l = c .before .before .before .before .before .before .loop in
-    (search needs, (search needs, final-more _ _ _ (l .i) (l .inv .1 .1) (c .before .before .put-number .ensures) (search needs) (omega arith)))
+    (search needs, (search needs, words-more _ _ _ (l .i) (l .inv .1 .1) (c .before .before .put-number .ensures) (search needs) (omega arith)))
 
 same-length : tie.Need-same-length Inv-loop μ-loop
 same-length c = search needs
 
 returns : tie.Need-returns Inv-loop μ-loop
-returns c =
-    let end : c .before .loop .i ≡ c .before .before .before .before .args .count = omega arith in
-    rw end at (c .before .loop .inv .1 .1)
+returns c = words-done _ _ _ _ (c .before .loop .inv .1 .1) (c .loop-test .left)
 
-pub put-final-spec : {M : Type 1} → statement M
-put-final-spec =
+pub write-words-spec : {M : Type 1} → statement M
+write-words-spec =
     tie.close
     (tie.spec
     Inv-loop
