@@ -55,9 +55,9 @@ fn hand_over(
 // The opening. All arrays are written, whatever they held.
 pub fn open(
     a: Terms,
-    u8s: &mut [u8; 10],
-    u32s: &mut [u32; 10],
-    sizes: &mut [usize; 2],
+    u8s: &mut [u8; U8S],
+    u32s: &mut [u32; U32S],
+    sizes: &mut [usize; SIZES],
     item: &mut [u8; 32],
     node: &mut [u8; 32],
     transcript: &mut [u8; 32],
