@@ -39,7 +39,7 @@ OUTSIDE = set()  # public calls whose result no contract can pin: none
 BY_POWERS_OF_TWO = ["field", "felt", "fold"]  # their code, and what it calls, divides and takes remainders by nothing else (request 2026-03)
 WRAPPING = re.compile(r"wrapping_(add|sub)_u(8|16|32|64)")  # what that code may call of std::num
 # crates of one part: what may name them. Their functions are no interface for others, and may require what their callers have tested.
-WITHIN = {"reader_items": {"reader_queries", "reader_pieces", "reader"}, "reader_queries": {"reader_pieces"}, "reader_pieces": {"reader"}}
+WITHIN = {"reader_items": {"reader_queries", "reader_pieces", "reader"}, "reader_queries": {"reader_pieces"}, "reader_pieces": {"reader"}, "writer_layers": {"writer"}}
 TESTS_ONLY = {"test_exports"}  # passes calls on to the comparisons; no interface for users
 
 faults = []

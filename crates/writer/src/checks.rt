@@ -25,13 +25,13 @@ pub fn tested(p: Params, coefficients: &[u32], numbers: usize, bytes: usize, out
     if admission != answer::OPEN {
         return admission;
     }
-    if coefficients.len() != crate::sizes::count_of(p, 0) {
+    if coefficients.len() != writer_layers::sizes::count_of(p, 0) {
         return answer::WRONG_COEFFICIENT_COUNT;
     }
     if !all_below(coefficients) {
         return answer::NOT_BELOW_MODULUS;
     }
-    let size = crate::sizes::size_of(p, 0);
+    let size = writer_layers::sizes::size_of(p, 0);
     let length = params::file_length(p);
     let numbers_needed = 2 * size;
     let bytes_needed = 64 * size;

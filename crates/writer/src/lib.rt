@@ -6,10 +6,7 @@ use answer::Answer;
 use params::Params;
 
 mod checks;
-mod layers;
-mod queries;
 mod sections;
-mod sizes;
 
 // Writes the proof of the polynomial to the front of the output. The scratch is 2·2^n numbers and 64·2^n bytes, or more.
 pub fn write(

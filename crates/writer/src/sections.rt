@@ -53,7 +53,7 @@ fn openings(p: Params, s: Transcript, numbers: &[u32], bytes: &[u8], file: &mut 
 {
     message::put_count(file, params::query_count_offset(p), p.q as usize);
     let at = params::queries_offset(p);
-    crate::queries::queries(p, s, numbers, bytes, file, at);
+    writer_layers::queries::queries(p, s, numbers, bytes, file, at);
 }
 
 // The file of a polynomial.
@@ -70,7 +70,7 @@ pub fn file(
 {
     buffer::put_numbers(numbers, coefficients);
     head(p, file);
-    let committed = crate::layers::layers(p, Transcript::start(p, context), numbers, bytes, file);
+    let committed = writer_layers::layers::layers(p, Transcript::start(p, context), numbers, bytes, file);
     let finished = finish(p, committed, &numbers[..], file);
     openings(p, finished, &numbers[..], &bytes[..], file);
 }
