@@ -6,7 +6,8 @@ prints signature and contract, and checks:
   total     it has no `requires`;
   tight     it has an `ensures` whose facts are equations. On the left stands the result, a field of it, or what is left in something lent by
             `&mut`; or a record assembled of these alone. On the right stands a term in which neither the result nor anything left behind
-            occurs, and no sign of logic. Together they pin the whole result and everything lent;
+            occurs, and no sign of logic. Together they pin the whole result and everything lent; of a reference in the result, what it points
+            at and where;
   meaning   every symbol of the contract comes from the library, every other name from a `specs` file or the call's own parameters. No name of
             the library's is taken for anything else, neither by a definition of a specs file, public or private, nor by a renaming import, and
             specs files import from the library and from specs files alone.
@@ -217,7 +218,8 @@ def structs():
             for name, fields in re.findall(r"pub struct (\w+)(?:<[^>]*>)?\s*\{([^}]*)\}", bare(path.read_text())):
                 if name in found:
                     fault(path.relative_to(ROOT), f"a second public struct {name}")
-                found[name] = {f.split(":")[0].replace("pub", "").strip() for f in fields.split(",") if f.strip()}
+                held = [f.replace("pub", "").partition(":") for f in fields.split(",") if f.strip()]
+                found[name] = {f.strip() for f, _, _ in held} | {f"{f.strip()}.ptr" for f, _, kind in held if kind.strip().startswith("&")}
     return found
 
 
@@ -294,7 +296,8 @@ def show(items):
 
 
 def pinned_by(left, r):
-    """What a left side pins: "result", ".field" of it, or a lent name with or without a field; None if it is of no such form."""
+    """What a left side pins: "result", ".field" of it, ".field.ptr" for where a reference in it points, or a lent name with or without a field; None if
+    it is of no such form."""
     while len(left) == 1 and isinstance(left[0], list):
         left = left[0]
     field = lambda x: isinstance(x, str) and re.fullmatch(r"\.\w+", x)
@@ -302,6 +305,8 @@ def pinned_by(left, r):
         return ["result"]
     if r != "_" and len(left) == 2 and left[0] == r and field(left[1]):
         return [left[1]]
+    if r != "_" and len(left) == 3 and left[0] == r and field(left[1]) and left[2] == ".ptr":
+        return [left[1] + ".ptr"]
     if len(left) in (2, 3) and left[0] == "now" and isinstance(left[1], list) and len(left[1]) == 2:
         name, end = left[1]
         if end == ".exit" and (len(left) == 2 or field(left[2])):

@@ -52,6 +52,8 @@ CASES = [
     ("buffer::put: the right side speaks of the result", (BUFFER, PUT, "    ensures { λ _. ⌜ now (buffer .exit) ≡ now (buffer .exit) ⌝ }")),
     ("buffer::put: the left side is not the result", (BUFFER, PUT, "    ensures { λ _. ⌜ length (now (buffer .exit)) ≡ length (now (buffer .entry)) ⌝ }"), (BUFFER, PATH, PATH + "\nghost use lib.ListN.{length};")),
     ("buffer::put: the contract does not pin what is left in buffer", (BUFFER, "pub fn put(buffer: &mut [u8], at: usize, part: &[u8])", "pub fn put<'a>(buffer: &'a mut [u8], at: usize, part: &[u8]) -> usize"), (BUFFER, PUT, "    ensures { λ r. ⌜ r ≡ at ⌝ }")),
+    ("look_up::look_up: the contract does not pin part.ptr of Found", ("crates/look_up/src/lib.rt", " × (r .part .ptr ≡ spec.lookUpPlace p (proof .entry .ptr) (now (proof .entry)) query layer)", "")),
+    ("look_up::look_up: the contract does not pin part of Found", ("crates/look_up/src/lib.rt", " × (now (r .part) ≡ spec.lookUpPart p (now (proof .entry)) query layer)", "")),
     ("does not pin count of Transcript", ("crates/transcript/src/lib.rt", "    pub state: [u8; 32],\n", "    pub state: [u8; 32],\n    pub count: u32,\n")),
     ("a second public struct Transcript", (FIELD, HEAD, "pub struct Transcript {}\n\n" + HEAD)),
     ("reader::piece_in_place: the contract does not pin what is left in roots", ("crates/reader/src/lib.rt", "replied (r .answer) (r .core) (now (roots .exit))", "replied (r .answer) (r .core) (now (challenges .exit))")),

@@ -2,8 +2,8 @@
 use Prim.Native.Nat.{ℕ, zero, suc, _+_, _-_, _*_, _≤_, _<_}
 use mathlib.Core.Bool.{Bool, true, false, not, _&&_, cond}
 use mathlib.Core.List.{List, []}
-use mathlib.Core.Path.{_≡_, refl, sym, _∙_}
-use native.Mathlib.Nat.{add-sub-cancel-left, mul-le-mul-right, suc-mul}
+use mathlib.Core.Path.{_≡_, refl, ap, sym, _∙_}
+use native.Mathlib.Nat.{add-comm, add-sub-cancel-left, mul-le-mul-right, suc-mul}
 use native.Mathlib.Omega.{arith}
 use borrow.Author.Tests.{not-true, not-false, ltb-true, eqb-true, lt-ltb, eq-eqb, ne-eqb}
 use lib.Dec.{eqb, ltb}
@@ -16,7 +16,7 @@ use Rattle.params.specs.Parameters.{Valid, openingLength, queryLength, openingO
 use Rattle.params.proofs.ParameterLaws.{from-valid}
 use Rattle.params.proofs.AdmissionLaws.{admitted-valid, admits-false, admitted-or-not}
 use Rattle.look_up.specs.declared.Span.{Span}
-use Rattle.look_up.specs.LookUp.{present, found, lookUpNumber, lookUpAnswer, lookUpPart, lookUpSpan}
+use Rattle.look_up.specs.LookUp.{present, found, lookUpNumber, lookUpAnswer, lookUpPart, lookUpSpan, lookUpPlace}
 
 both : (a b : Bool) → (a && b) ≡ true → (a ≡ true) × (b ≡ true)
 both true b e = (refl, e)
@@ -148,3 +148,8 @@ pub cut-part : {s : Span} (p : Params) (file : List ℕ) (i j : ℕ) → s ≡ l
     → take (s .start + s .length - s .start) (drop (s .start) file) ≡ lookUpPart p file i j
 unfolding part
 cut-part {s = s} p file i j e = rw (add-sub-cancel-left (s .start) (s .length), e) (span-part p file i j)
+
+pub cut-place : {s : Span} (p : Params) (place : ℕ × ℕ) (file : List ℕ) (i j : ℕ) → s ≡ lookUpSpan p (length file) i j
+    → (place .0, s .start + place .1) ≡ lookUpPlace p place file i j
+unfolding lookUpPlace
+cut-place {s = s} p place file i j e = ap (λ u. (place .0, u)) (add-comm (s .start) (place .1) ∙ ap (λ u. place .1 + u .start) e)

@@ -1,4 +1,4 @@
--- In a file with the published layout the look-up hands back exactly the bytes of the opening that it is asked for; so in every accepted file,
+-- In a file with the published layout the look-up hands back exactly the bytes of the opening that it is asked for, where they stand; so in every accepted file,
 -- whatever the hash. Assumes nothing.
 use Prim.Native.Nat.{ℕ, zero, suc, _+_, _*_, _<_}
 use mathlib.Core.List.{List, [], _∷_, _++_, map, append-assoc, append-nil}
@@ -21,7 +21,7 @@ use Rattle.fri.specs.Encoding.{Opening, Proof, noOpening, openingAt, openingByt
 use Rattle.fri.specs.Judge.{verdict}
 use Rattle.fri.specs.Accepted.{Accepted}
 use Rattle.fri.proofs.Exactly.{verdict-accepted}
-use Rattle.look_up.specs.LookUp.{lookUpNumber, lookUpAnswer, lookUpPart}
+use Rattle.look_up.specs.LookUp.{lookUpNumber, lookUpAnswer, lookUpPart, lookUpSpan, lookUpPlace}
 use Rattle.look_up.proofs.LookUpLaws.{present-test, layer-within}
 
 words-sized : (vs : List ℕ) → Sized 4 (map (le 4) vs)
@@ -161,20 +161,27 @@ module _ (p : Params) where
       unfolding lookUpPart
       encoded-part v = rw (v, present-test p (length (encode p proof)) i j encoded-length query layer) encoded-opening
 
+      pub encoded-place : admission p ≡ open-so-far → (place : ℕ × ℕ) → lookUpPlace p place (encode p proof) i j ≡ (place .0, place .1 + openingOffset p i j)
+      unfolding lookUpPlace lookUpSpan
+      encoded-place v place = rw (v, present-test p (length (encode p proof)) i j encoded-length query layer)
+
 -- In an accepted file the look-up finds every opening of its proof.
 pub looked-up : (hash : List ℕ → Digest) (p : Params) (context file : List ℕ) → admission p ≡ open-so-far → (a : Accepted hash p context file)
     → (i j : ℕ) → i < p .q → j < p .k
     → (lookUpAnswer p file i j ≡ answered open-so-far 0) × (lookUpPart p file i j ≡ openingBytes (openingAt (a .proof) i j))
+    × ((place : ℕ × ℕ) → lookUpPlace p place file i j ≡ (place .0, place .1 + openingOffset p i j))
 looked-up hash p context file v a i j h l = (
   ap (λ u. lookUpAnswer p u i j) (a .bytes) ∙ encoded-answer p (a .proof) (a .layout) i j h l v,
   ap (λ u. lookUpPart p u i j) (a .bytes) ∙ encoded-part p (a .proof) (a .layout) i j h l v,
+  λ place. ap (λ u. lookUpPlace p place u i j) (a .bytes) ∙ encoded-place p (a .proof) (a .layout) i j h l v place,
 )
 
--- An accepted file, with what the look-up in it answers and hands back.
+-- An accepted file, with what the look-up in it answers and hands back, and where that stands for a file at any place.
 pub record LookedUp (hash : List ℕ → Digest) (p : Params) (context file : List ℕ) : Type 0 where
   pub is-accepted : Accepted hash p context file
   pub answers : (i j : ℕ) → i < p .q → j < p .k → lookUpAnswer p file i j ≡ answered open-so-far 0
   pub parts : (i j : ℕ) → i < p .q → j < p .k → lookUpPart p file i j ≡ openingBytes (openingAt (is-accepted .proof) i j)
+  pub places : (i j : ℕ) → i < p .q → j < p .k → (place : ℕ × ℕ) → lookUpPlace p place file i j ≡ (place .0, place .1 + openingOffset p i j)
 
 -- A file that the verdict accepts is the encoding of a proof with the layout, and the look-up hands back its openings.
 pub verdict-looked-up : (hash : List ℕ → Digest) (a : Terms) (file : List ℕ) → Admitted a → Bytes file
@@ -185,4 +192,5 @@ verdict-looked-up hash a file v b e =
       is-accepted = h;
       answers = λ i j k l. looked-up hash (a .params) (a .context) file v h i j k l .0;
       parts = λ i j k l. looked-up hash (a .params) (a .context) file v h i j k l .1;
+      places = λ i j k l. looked-up hash (a .params) (a .context) file v h i j k l .2;
     }

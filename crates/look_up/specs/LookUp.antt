@@ -1,5 +1,5 @@
 -- The look-up of one opening (document 01, "When the reader says no"): its answer, and the stretch of the file that it hands back. It doesn't judge.
-use Prim.Native.Nat.{ℕ}
+use Prim.Native.Nat.{ℕ, _+_}
 use mathlib.Core.Bool.{Bool, _&&_, cond}
 use mathlib.Core.List.{List, []}
 use lib.Dec.{eqb, ltb}
@@ -40,3 +40,8 @@ lookUpSpan p size i j =
       start = cond (found p size i j) (openingOffset p i j) 0;
       length = cond (found p size i j) (openingLength p j) 0;
     }
+
+-- Where the part stands, for a file that stands at a place: in the file's own block of memory, as many bytes on as the span starts. A place is a block and
+-- an offset in it, as a reference has it in the logic.
+unfoldable pub lookUpPlace : Params → ℕ × ℕ → List ℕ → ℕ → ℕ → ℕ × ℕ
+lookUpPlace p place file i j = (place .0, place .1 + lookUpSpan p (length file) i j .start)

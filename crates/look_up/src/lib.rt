@@ -73,7 +73,7 @@ fn look_up_answer(p: Params, proof: &[u8], query: usize, layer: usize) -> Answer
 }
 
 fn look_up_part(p: Params, proof: &[u8], query: usize, layer: usize) -> &[u8]
-    ensures { λ r. ⌜ now r ≡ spec.lookUpPart p (now (proof .entry)) query layer ⌝ }
+    ensures { λ r. ⌜ (now r ≡ spec.lookUpPart p (now (proof .entry)) query layer) × (r .ptr ≡ spec.lookUpPlace p (proof .entry .ptr) (now (proof .entry)) query layer) ⌝ }
 {
     let span = look_up_span(p, proof.len(), query, layer);
     let start = span.start;
@@ -88,7 +88,7 @@ pub struct Found<'a> {
 }
 
 pub fn look_up<'a>(p: Params, proof: &'a [u8], query: usize, layer: usize) -> Found<'a>
-    ensures { λ r. ⌜ (r .answer ≡ spec.lookUpAnswer p (now (proof .entry)) query layer) × (now (r .part) ≡ spec.lookUpPart p (now (proof .entry)) query layer) ⌝ }
+    ensures { λ r. ⌜ (r .answer ≡ spec.lookUpAnswer p (now (proof .entry)) query layer) × (now (r .part) ≡ spec.lookUpPart p (now (proof .entry)) query layer) × (r .part .ptr ≡ spec.lookUpPlace p (proof .entry .ptr) (now (proof .entry)) query layer) ⌝ }
 {
     let answer = look_up_answer(p, proof, query, layer);
     let part = look_up_part(p, proof, query, layer);

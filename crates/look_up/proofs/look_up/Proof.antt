@@ -39,7 +39,7 @@ use denote.Triple.Spec.{Meets, tripleOf}
 use denote.Triple.Table.{entered, cited}
 use denote.Triple.Walked.{says, Stays, stay-none, stay-none-slice, walkOf, AllGo, goes-none, goes-none-slice, Walks, ends-at, walked, walk-meets}
 use denote.Exit.{yes}
-use Rattle.look_up.specs.LookUp.{lookUpAnswer, lookUpPart}
+use Rattle.look_up.specs.LookUp.{lookUpAnswer, lookUpPart, lookUpPlace}
 use Rattle.params.specs.declared.Params.{Params}
 use Rattle.answer.specs.declared.Answer.{Answer}
 use Rattle.params.proofs.Params as P
@@ -107,6 +107,10 @@ module _ {M : Type 1} (𝓤 : URA M) (H : Heap 𝓤) (A : Atoms 𝓤) (W : Given
   abbrev Known : Type 0
   Known = Is P.the-row p (p-val ∷ []) × (Is (ShrSlice (named 0) κ u8) s (s-val s ∷ []) × (Is usize i (vint w64 i ∷ []) × Is usize j (vint w64 j ∷ [])))
 
+  -- what is said of the part
+  abbrev IsPart : RefT (List ℕ) → Type 0
+  IsPart t = (now t ≡ lookUpPart p (now s) i j) × (t .ptr ≡ lookUpPlace p (s .ptr) (now s) i j)
+
   -- each callee asks what `look_up` itself is given
   goes : Known → ent 𝓤 (⋆ 𝓤 H A ((‵ (flft κ q) ⊛ ‵ ftrue) ∷ ‵ (Own s) ∷ [])) (sep 𝓤 (onEntry 𝓤 H A f.signature (κ, tt) (q, tt) a at) (emp 𝓤))
   goes g =
@@ -117,8 +121,8 @@ module _ {M : Type 1} (𝓤 : URA M) (H : Heap 𝓤) (A : Atoms 𝓤) (W : Given
   answer-said : (r : Answer) → ent 𝓤 (ensured 𝓤 H A answer.ended (answer.clauses 𝓤 H A at-mem run) (κ, tt) a tt r) (fact 𝓤 (r ≡ lookUpAnswer p (now s) i j))
   answer-said r = exE 𝓤 _ (λ ws. snd∗ 𝓤 (sem 𝓤 H A (lasts answer.ended (κ, tt) a ws)) (fact 𝓤 (r ≡ lookUpAnswer p (now s) i j)))
 
-  part-said : (t : RefT (List ℕ)) → ent 𝓤 (ensured 𝓤 H A part.ended (part.clauses 𝓤 H A at-mem run) (κ, tt) a tt t) (fact 𝓤 (now t ≡ lookUpPart p (now s) i j))
-  part-said t = exE 𝓤 _ (λ ws. snd∗ 𝓤 (sem 𝓤 H A (lasts part.ended (κ, tt) a ws)) (fact 𝓤 (now t ≡ lookUpPart p (now s) i j)))
+  part-said : (t : RefT (List ℕ)) → ent 𝓤 (ensured 𝓤 H A part.ended (part.clauses 𝓤 H A at-mem run) (κ, tt) a tt t) (fact 𝓤 (IsPart t))
+  part-said t = exE 𝓤 _ (λ ws. snd∗ 𝓤 (sem 𝓤 H A (lasts part.ended (κ, tt) a ws)) (fact 𝓤 (IsPart t)))
 
   -- a result at the machine value that the callee returned is one at its own spelling
   answer-known : (r : Answer) (u : Val) → Is R.the-row r (u ∷ []) → Is R.the-row r (answer-val r ∷ [])
@@ -130,12 +134,12 @@ module _ {M : Type 1} (𝓤 : URA M) (H : Heap 𝓤) (A : Atoms 𝓤) (W : Given
   abbrev made : Answer → RefT (List ℕ) → Found
   made r t = record { answer = r; part = t }
 
-  exits : Known → (r : Answer) (t : RefT (List ℕ)) → r ≡ lookUpAnswer p (now s) i j → now t ≡ lookUpPart p (now s) i j → Is R.the-row r (answer-val r ∷ [])
+  exits : Known → (r : Answer) (t : RefT (List ℕ)) → r ≡ lookUpAnswer p (now s) i j → IsPart t → Is R.the-row r (answer-val r ∷ [])
       → ent 𝓤 (⋆ 𝓤 H A (‵ (Own t) ∷ (‵ (flft κ q) ⊛ ‵ ftrue) ∷ ‵ (Own s) ∷ [])) (Post (vstruct (vcons (answer-val r) (vcons (s-val t) vnil))))
   exits g r t e e′ is =
       qed W (‵ (Own t) ∷ (‵ (flft κ q) ⊛ ‵ ftrue) ∷ ‵ (Own s) ∷ []) ∵
       suffices ! _ (ends-at 𝓤 H A f.ended stayed (f.clauses 𝓤 H A at-mem run) W bound (vstruct (vcons (answer-val r) (vcons (s-val t) vnil))) (made r t) (tt, (tt, (tt, (tt, tt)))) (tt, (tt, (tt, (tt, tt))))) $
-      says ! (e, e′) $ move ! (1 ∷ []) $ frame ! $
+      says ! (e, e′ .0, e′ .1) $ move ! (1 ∷ []) $ frame ! $
       move ! (1 ∷ []) $ nothing ! $ owned ! usize (Is usize) (uint-makes 𝓤 H A W w64) j _ (g .1 .1 .1) $ fjoin ! $ owned ! usize (Is usize) (uint-makes 𝓤 H A W w64) i _ (g .1 .1 .0) $ fjoin ! $ move ! (1 ∷ 0 ∷ []) $ fjoin ! $
       owned ! P.the-row (Is P.the-row) (LL.makes P.the-type P′.the-plain 𝓤 H A) p _ (g .0) $ fjoin ! $ frame ! $
       nothing ! $ move ! (1 ∷ 0 ∷ []) $ fjoin ! $ owned ! R.the-row (Is R.the-row) (LL.makes R.the-type R′.the-plain 𝓤 H A) r _ is $ fjoin ! $ by ! (own-shut 𝓤 H A W (T.the-type α) (T′.the-laws α) (r, (t, tt)))
@@ -161,7 +165,7 @@ module _ {M : Type 1} (𝓤 : URA M) (H : Heap 𝓤) (A : Atoms 𝓤) (W : Given
         -- [what the call asks; Own; _6; …; _5; …; _4; …; _3; …; _2; …; _1; …; room for _0; …]
         calls-at ! fm (ToPart 𝓤 H A at-mem run) known-part bound (and-then ! (load ! (from ! (stop !)) (look ! 12 refl)) (and-then ! (load ! (from ! (stop !)) (look ! 10 refl)) (and-then ! (load ! (from ! (stop !)) (look ! 8 refl)) (and-then ! (load ! (from ! (stop !)) (look ! 6 refl)) (no-more !))))) (λ w.
         use1 W (later (some (λ (t : RefT (List ℕ)). ((‵ (flft κ q) ⊛ ‵ ftrue) ⊛ ‵ (ShrSlice (named 0) κ u8 .own t (w ∷ []))) ⊛ raw (ensured 𝓤 H A part.ended (part.clauses 𝓤 H A at-mem run) (κ, tt) a tt t)))) (id⊢ 𝓤 _) $ await ! tt $ pick ! (λ t.
-        split ! $ move ! (1 ∷ []) $ use1 W (raw (fact 𝓤 (now t ≡ lookUpPart p (now s) i j))) (part-said t) $ heard ! (now t ≡ lookUpPart p (now s) i j) (λ e′. split ! $ move ! (1 ∷ []) $
+        split ! $ move ! (1 ∷ []) $ use1 W (raw (fact 𝓤 (IsPart t))) (part-said t) $ heard ! (IsPart t) (λ e′. split ! $ move ! (1 ∷ []) $
         peeks ! (ShrSlice (named 0) κ u8) (Is (ShrSlice (named 0) κ u8)) (shows 𝓤 H A (ShrSlice (named 0) κ u8)) t (w ∷ []) (λ is′.
         -- [what the part owns; the token; Own; _6; …; _5; …; _4; …; _3; …; _2; …; _1; …; room for _0; …]
         land ! (from ! (stop !)) (init ! 3 refl (shr-slice-lawful 𝓤 H A W erased κ u8 .typed t _ is′ .0)) $

@@ -1,7 +1,7 @@
--- `look_up::look_up_part` meets its contract: the span lies within the proof, and cuts out the part. Assumes nothing.
+-- `look_up::look_up_part` meets its contract: the span lies within the proof, and cuts out the part where it stands. Assumes nothing.
 use native.Mathlib.Omega.{arith}
 use borrow.Author.Needs.{needs}
-use Rattle.look_up.proofs.LookUpLaws.{cut-within, cut-part}
+use Rattle.look_up.proofs.LookUpLaws.{cut-within, cut-part, cut-place}
 use Rattle.look_up.proofs.look_up_part.Statement.{statement}
 use Rattle.look_up.proofs.look_up_part.Tie as tie
 
@@ -21,7 +21,7 @@ part-result-end : tie.Need-part-result-end
 part-result-end c = cut-within _ _ _ _ (c .before .look-up-span .ensures)
 
 returns : tie.Need-returns
-returns c = cut-part _ _ _ _ (c .before .before .look-up-span .ensures)
+returns c = (cut-part _ _ _ _ (c .before .before .look-up-span .ensures), cut-place _ _ _ _ _ (c .before .before .look-up-span .ensures))
 
 pub look-up-part-spec : {M : Type 1} → statement M
 look-up-part-spec =
