@@ -104,8 +104,7 @@ pub fn after_root(c: Core, roots: &mut [u8; ROOTS], challenges: &mut [u32; CHALL
 fn absorbed_final(state: [u8; 32], coefficients: [u32; COEFFICIENTS], count: usize) -> [u8; 32]
     ensures { λ r. ⌜ r ≡ finish sha256 state (take count coefficients) ⌝ }
 {
-    let after = Transcript { state: state }.absorb_final(coefficients, count);
-    after.state
+    lent_transcript::finish(Transcript { state: state }, coefficients, count)
 }
 
 // A final coefficient is kept; after the last one all are absorbed, and the queries can be drawn.
