@@ -12,12 +12,6 @@ pub struct Text {
     pub length: usize,
 }
 
-fn wide(x: u8) -> u32
-    ensures { λ r. ⌜ r ≡ x ⌝ }
-{
-    x as u32
-}
-
 // Stores more characters.
 fn put(line: Text, part: &[u8]) -> Text
     requires { ⌜ line .length + length (now part) ≤ 32 ⌝ }
@@ -50,7 +44,7 @@ pub fn line(a: Answer) -> Text
         bytes: [0u8; 32],
         length: 0,
     };
-    let number = wide(a.number);
+    let number = a.number as u32;
     let place = a.place;
     if a.number == answer::ACCEPTED {
         let word = put(empty, b"accepted ");
