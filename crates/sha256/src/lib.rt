@@ -1,5 +1,5 @@
 // SHA-256 (FIPS 180-4) of a message of at most 4,096 bytes. The definitions that the contracts cite are in specs/.
-// The hash value, of eight words, and the message schedule, of 64, go in and come back by value.
+// The hash value, of eight words, and the message schedule, sixteen words of it at a time, go in and come back by value.
 ghost use mathlib.Core.Path.{_≡_};
 ghost use Prim.Native.Nat.{_+_, _*_, _/_, _%_, _^_, _<_, _≤_, _-_};
 ghost use lib.ListN.{length, getD};
@@ -7,7 +7,7 @@ ghost use Rattle.sha256.specs.Words.{ch, maj, bigSigma0, bigSigma1, smal
 ghost use Rattle.sha256.specs.Constants.{roundConstants};
 ghost use Rattle.sha256.specs.Sha256 as spec;
 ghost use Rattle.sha256.specs.Hash.{hashed};
-ghost use Rattle.sha256.specs.Private.{Starts, LastRounds, finalWords, hashNumber};
+ghost use Rattle.sha256.specs.Private.{Turns, LastRounds, finalWords, hashNumber};
 use answer::Answer;
 
 // The longest message that is hashed, in bytes.
@@ -170,101 +170,111 @@ fn round(s: [u32; 8], k: u32, w: u32) -> [u32; 8]
     [x, a, b, c, y, e, f, g]
 }
 
-// Round t, with the table and the schedule lent: a copy of either for each round would cost more than the round.
-fn round_at(s: [u32; 8], k: &[u32; 64], w: &[u32; 64], t: usize) -> [u32; 8]
+// Round t, with its word of the schedule. The table is lent: a copy of it for each round would cost more than the round.
+fn round_at(s: [u32; 8], k: &[u32; 64], t: usize, w: u32) -> [u32; 8]
     requires { ⌜ t < 64 ⌝ }
-    ensures { λ r. ⌜ r ≡ spec.round s (getD (now (k .entry)) t 0) (getD (now (w .entry)) t 0) ⌝ }
+    ensures { λ r. ⌜ r ≡ spec.round s (getD (now (k .entry)) t 0) w ⌝ }
 {
-    round(s, k[t], w[t])
+    round(s, k[t], w)
 }
 
-// A block's sixteen words, and room for the rest of its schedule.
-fn widen(m: [u32; 16]) -> [u32; 64]
-    ensures { λ r. ⌜ Starts m r ⌝ }
+// A word of the schedule, 6.2.2 step 1, from the words 16, 15, 7 and 2 places before it.
+fn next_word(w0: u32, w1: u32, w9: u32, w14: u32) -> u32
+    ensures { λ r. ⌜ r ≡ (smallSigma1 w14 + w9 + smallSigma0 w1 + w0) % 2 ^ 32 ⌝ }
 {
-    let mut w = [0u32; 64];
-    let mut i = 0;
-    while i < 16 {
-        w[i] = m[i];
-        i += 1;
-    }
-    w
+    add4(small_sigma1(w14), w9, small_sigma0(w1), w0)
 }
 
-// Word n + 16 of the schedule, from the words before it.
-fn next_word(w: &[u32; 64], n: usize) -> u32
-    requires { ⌜ n < 48 ⌝ }
-    ensures { λ r. ⌜ r ≡ spec.nextWord (now (w .entry)) n ⌝ }
-{
-    add4(
-        small_sigma1(w[n + 14]),
-        w[n + 9],
-        small_sigma0(w[n + 1]),
-        w[n],
-    )
+// What a turn leaves: the working variables eight rounds on, and the sixteen words of the schedule from there.
+struct Later {
+    state: [u32; 8],
+    words: [u32; 16],
 }
 
-// The last sixteen rounds, 6.2.2 step 3, eight to a turn: the schedule is whole by then.
-fn last_rounds(k: &[u32; 64], start: [u32; 8], w: &[u32; 64]) -> [u32; 8]
+// Eight rounds from round n, on the working variables and on the sixteen words of the schedule from word n. Beside each round stands a word that
+// is needed two turns on: a round waits for the round before it, and the processor fills the wait with the word. Every place in the sixteen
+// words is a number here, so that no array is left in the compiled code.
+fn turn(k: &[u32; 64], s: [u32; 8], w: [u32; 16], n: usize) -> Later
+    requires { ⌜ (now k ≡ roundConstants) × (n ≤ 40) ⌝ }
+    ensures { λ r. ⌜ Turns n s w (r .state) (r .words) ⌝ }
+{
+    let s0 = round_at(s, k, n, w[0]);
+    let x0 = next_word(w[0], w[1], w[9], w[14]);
+    let s1 = round_at(s0, k, n + 1, w[1]);
+    let x1 = next_word(w[1], w[2], w[10], w[15]);
+    let s2 = round_at(s1, k, n + 2, w[2]);
+    let x2 = next_word(w[2], w[3], w[11], x0);
+    let s3 = round_at(s2, k, n + 3, w[3]);
+    let x3 = next_word(w[3], w[4], w[12], x1);
+    let s4 = round_at(s3, k, n + 4, w[4]);
+    let x4 = next_word(w[4], w[5], w[13], x2);
+    let s5 = round_at(s4, k, n + 5, w[5]);
+    let x5 = next_word(w[5], w[6], w[14], x3);
+    let s6 = round_at(s5, k, n + 6, w[6]);
+    let x6 = next_word(w[6], w[7], w[15], x4);
+    let s7 = round_at(s6, k, n + 7, w[7]);
+    let x7 = next_word(w[7], w[8], x0, x5);
+    let words = [
+        w[8],
+        w[9],
+        w[10],
+        w[11],
+        w[12],
+        w[13],
+        w[14],
+        w[15],
+        x0,
+        x1,
+        x2,
+        x3,
+        x4,
+        x5,
+        x6,
+        x7,
+    ];
+    Later { state: s7, words }
+}
+
+// The last sixteen rounds, eight to a turn: the words that they need are all there.
+fn last_rounds(k: &[u32; 64], start: [u32; 8], w: [u32; 16]) -> [u32; 8]
     requires { ⌜ now k ≡ roundConstants ⌝ }
-    ensures { λ r. ⌜ LastRounds (now (w .entry)) start r ⌝ }
+    ensures { λ r. ⌜ LastRounds w start r ⌝ }
 {
     let mut s = start;
-    let mut n = 48;
-    while n < 64 {
-        let s0 = round_at(s, k, w, n);
-        let s1 = round_at(s0, k, w, n + 1);
-        let s2 = round_at(s1, k, w, n + 2);
-        let s3 = round_at(s2, k, w, n + 3);
-        let s4 = round_at(s3, k, w, n + 4);
-        let s5 = round_at(s4, k, w, n + 5);
-        let s6 = round_at(s5, k, w, n + 6);
-        let s7 = round_at(s6, k, w, n + 7);
+    let mut n = 0;
+    while n < 16 {
+        let s0 = round_at(s, k, n + 48, w[n]);
+        let s1 = round_at(s0, k, n + 49, w[n + 1]);
+        let s2 = round_at(s1, k, n + 50, w[n + 2]);
+        let s3 = round_at(s2, k, n + 51, w[n + 3]);
+        let s4 = round_at(s3, k, n + 52, w[n + 4]);
+        let s5 = round_at(s4, k, n + 53, w[n + 5]);
+        let s6 = round_at(s5, k, n + 54, w[n + 6]);
+        let s7 = round_at(s6, k, n + 55, w[n + 7]);
         s = s7;
         n += 8;
     }
     s
 }
 
-// The 64 rounds on a block, 6.2.2 steps 1 to 3, eight to a turn, so that the working variables stay in registers. Beside the rounds of a turn
-// stand the eight words of the schedule that are needed two turns on: a round waits for the round before it, and the processor fills the wait
-// with the words. The constants are lent from `absorb`: naming K here would copy the table for each block.
+// The 64 rounds on a block, 6.2.2 steps 1 to 3, eight to a turn, so that the working variables stay in registers. The block's words are the first
+// sixteen of the schedule. The constants are lent from `absorb`: naming K here would copy the table for each block.
 fn rounds(k: &[u32; 64], h: [u32; 8], m: [u32; 16]) -> [u32; 8]
     requires { ⌜ now k ≡ roundConstants ⌝ }
     ensures { λ r. ⌜ r ≡ spec.rounds (spec.schedule m 48) h 64 ⌝ }
 {
-    let mut w = widen(m);
     let mut s = h;
+    let mut w = m;
     let mut n = 0;
     while n < 48 {
-        let s0 = round_at(s, k, &w, n);
-        let s1 = round_at(s0, k, &w, n + 1);
-        let s2 = round_at(s1, k, &w, n + 2);
-        let s3 = round_at(s2, k, &w, n + 3);
-        let s4 = round_at(s3, k, &w, n + 4);
-        let s5 = round_at(s4, k, &w, n + 5);
-        let s6 = round_at(s5, k, &w, n + 6);
-        let s7 = round_at(s6, k, &w, n + 7);
-        let x0 = next_word(&w, n);
-        w[n + 16] = x0;
-        let x1 = next_word(&w, n + 1);
-        w[n + 17] = x1;
-        let x2 = next_word(&w, n + 2);
-        w[n + 18] = x2;
-        let x3 = next_word(&w, n + 3);
-        w[n + 19] = x3;
-        let x4 = next_word(&w, n + 4);
-        w[n + 20] = x4;
-        let x5 = next_word(&w, n + 5);
-        w[n + 21] = x5;
-        let x6 = next_word(&w, n + 6);
-        w[n + 22] = x6;
-        let x7 = next_word(&w, n + 7);
-        w[n + 23] = x7;
-        s = s7;
+        let later = turn(k, s, w, n);
+        let state = later.state;
+        let words = later.words;
+        s = state;
+        w = words;
         n += 8;
     }
-    last_rounds(k, s, &w)
+    last_rounds(k, s, w)
 }
 
 // The sums of the words of two hash values, 6.2.2 step 4.
