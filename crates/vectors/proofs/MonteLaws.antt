@@ -6,12 +6,12 @@ use Prim.Native.Nat.{ℕ, suc, _+_, _-_, _≤_, _<_}
 use native.Mathlib.Numerals.{add-one}
 use native.Mathlib.Omega.{arith}
 use lib.ListN.{length, getD, length-append, List·getD-append}
-use lib.Seq.{getD-append-add}
+use lib.Seq.{getD-append-add, ext-getD}
 use Rattle.sha256.specs.Words.{build}
 use Rattle.sha256.specs.Sha256.{sha256}
 use Rattle.sha256.specs.Hash.{hashed}
 use Rattle.sha256.specs.declared.Hashed.{Hashed}
-use Rattle.sha256.proofs.Build.{Filled, filled-all, build-getD}
+use Rattle.sha256.proofs.Build.{Filled, filled-all, length-build, getD-build}
 use Rattle.sha256.proofs.HashLaws.{hashed-short}
 use Rattle.vectors.specs.Monte.{digestAt, checkpoint}
 
@@ -36,6 +36,12 @@ pub in-third : (a b c : List ℕ) (i : ℕ) → length a ≡ 32 → length b ≡
 in-third a b c i p q from =
     let two : length (a ++ b) ≡ 64 = simp (length-append, p, q) in
     after (a ++ b) c 64 i two from ∙ ap (λ (l : List ℕ). getD l i 0) (append-assoc a b c)
+
+-- a list is what its elements build
+build-getD : (l : List ℕ) → build (λ j. getD l j 0) (length l) ≡ l
+build-getD l =
+    ext-getD 0 (build (λ j. getD l j 0) (length l)) l (length-build _ (length l))
+    (λ i h. getD-build (λ j. getD l j 0) (length l) i (omega (arith, length-build (λ j. getD l j 0) (length l))))
 
 -- an array that is filled with a list's elements to its end is the list
 pub filled-list : {l m : List ℕ} {size i : ℕ} → Filled (λ j. getD l j 0) size i m → length l ≡ size → size ≤ i → m ≡ l
