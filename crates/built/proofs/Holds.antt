@@ -14,7 +14,7 @@ use Rattle.domain.specs.Domain.{half, point}
 use Rattle.domain.proofs.DomainLaws.{opposite, square}
 use Rattle.merkle.specs.Merkle.{climb, path}
 use Rattle.merkle.proofs.Opens.{opens}
-use Rattle.transcript.specs.Transcript.{start, challenge, finish, drawn, absorbed}
+use Rattle.transcript.specs.Transcript.{start, challenge, absorbFinal, draw, absorbed}
 use Rattle.fold.specs.Poly.{eval, fold}
 use Rattle.fold.specs.Fold.{FoldsFrom}
 use Rattle.fold.proofs.FoldCheck.{fold-check}
@@ -22,7 +22,7 @@ use Rattle.fri.specs.Encoding.{Proof, openingAt, rootAt}
 use Rattle.message.specs.Lists.{tabulate}
 use Rattle.fri.specs.Judge.{valueAt}
 use Rattle.fri.specs.Accepted.{challengeAt, drawnLeaf, leafAt, openedLeaf, pointAt, FoldsTo, nextValue, Holds}
-use Rattle.built.specs.Built.{Layer, leafValues, leafOf, leaves, commit, nextLayer, layerAt, builtRoot, builtLeaf, openingOf, build}
+use Rattle.built.specs.Built.{Layer, leafValues, leafOf, leaves, commit, layerAfter, layerAt, builtRoot, builtLeaf, openingOf, build}
 use Rattle.message.proofs.Tabulate.{tabulate-length, tabulate-at}
 use Rattle.built.proofs.Layers.{leaves-length, layer-state}
 use Rattle.built.proofs.BuiltLayout.{built-opening}
@@ -66,7 +66,7 @@ module _ (hash : List ℕ → Digest) (p : Params) (context f : List ℕ) where
   built-leaf : (i : ℕ) → drawnLeaf hash p context proof i ≡ builtLeaf hash p context f i
   unfolding drawnLeaf build builtLeaf
   built-leaf i =
-      ap (λ s. drawn hash (finish hash s (layer (p .k) .poly)) (indexBits p) i) (all ∙ layer-state hash p context f (p .k) (p .k) (omega arith))
+      ap (λ s. draw hash (absorbFinal hash s (layer (p .k) .poly)) (indexBits p) i) (all ∙ layer-state hash p context f (p .k) (p .k) (omega arith))
     where
       roots : List Digest
       roots = tabulate (p .k) (builtRoot hash p context f)
@@ -84,7 +84,7 @@ module _ (hash : List ℕ → Digest) (p : Params) (context f : List ℕ) where
   -- Query i's values in layer j fold to the next polynomial's value at its leaf's index.
   built-folds : (i j : ℕ) → i < p .q → j < p .k → j < p .n → p .n ≤ 30
       → FoldsTo hash p context proof i j (eval (layer (suc j) .poly) (point (p .n) (depth p (suc j)) (leafAt hash p context proof i j)))
-  unfolding FoldsTo pointAt leafAt openingOf layerAt nextLayer
+  unfolding FoldsTo pointAt leafAt openingOf layerAt layerAfter
   built-folds i j h l m n =
       rw (built-opening hash p context f i j h l, built-challenge j l, built-leaf i) (point-folds p j _ _ (layer j .poly) m n)
 

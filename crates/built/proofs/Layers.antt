@@ -13,7 +13,7 @@ use Rattle.transcript.specs.Transcript.{start, absorb, absorbed}
 use Rattle.transcript.proofs.TranscriptLaws.{absorbed-snoc}
 use Rattle.fold.specs.Poly.{Below}
 use Rattle.fold.proofs.FoldCheck.{fold-length, fold-below, eval-lt}
-use Rattle.built.specs.Built.{padded, leafValues, leaves, nextLayer, layerAt, builtRoot}
+use Rattle.built.specs.Built.{padded, leafValues, leaves, layerAfter, layerAt, builtRoot}
 use Rattle.message.specs.Lists.{tabulate}
 use Rattle.message.proofs.Tabulate.{tabulate-length, tabulate-at}
 
@@ -38,7 +38,7 @@ module _ (hash : List ℕ → Digest) (p : Params) (context f : List ℕ) where
   -- Each fold halves the number of coefficients.
   pub layer-length : (j : ℕ) → j ≤ p .n - p .b → length f ≤ 2 ^ (p .n - p .b)
       → length (layerAt hash p context f j .poly) ≡ 2 ^ (p .n - p .b - j)
-  unfolding layerAt nextLayer
+  unfolding layerAt layerAfter
   layer-length zero h short = padded-length _ f short ∙ ap (λ e. 2 ^ e) (omega arith)
   layer-length (suc j) h short =
       fold-length _ _ (2 ^ (p .n - p .b - suc j))
@@ -46,14 +46,14 @@ module _ (hash : List ℕ → Digest) (p : Params) (context f : List ℕ) where
 
   -- A fold's coefficients are below the modulus, whatever those of f are.
   pub layer-below : (j : ℕ) → 1 ≤ j → Below (layerAt hash p context f j .poly)
-  unfolding layerAt nextLayer
+  unfolding layerAt layerAfter
   layer-below zero h = absurd (omega arith)
   layer-below (suc j) h = fold-below _ _
 
   -- The transcript before layer j is the one after the roots of the layers before it.
   pub layer-state : (k j : ℕ) → j ≤ k
       → absorbed hash (start hash (header p) context) (take j (tabulate k (builtRoot hash p context f))) ≡ layerAt hash p context f j .state
-  unfolding layerAt nextLayer absorbed builtRoot
+  unfolding layerAt layerAfter absorbed builtRoot
   layer-state k zero h = refl
   layer-state k (suc j) h =
       ap (absorbed hash _) (take-suc roots j [] (omega (arith, tabulate-length k root)))

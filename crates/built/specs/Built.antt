@@ -8,7 +8,7 @@ use Rattle.params.specs.Parameters.{header, depth, valuesPerLeaf, height, leafC
 use Rattle.message.specs.Message.{Digest}
 use Rattle.domain.specs.Domain.{point}
 use Rattle.merkle.specs.Merkle.{rootOf, path, leafDigest}
-use Rattle.transcript.specs.Transcript.{start, absorb, challenge, finish, drawn}
+use Rattle.transcript.specs.Transcript.{start, absorb, challenge, absorbFinal, draw}
 use Rattle.fold.specs.Poly.{eval, fold}
 use Rattle.fri.specs.Encoding.{Opening, Proof, encode}
 use Rattle.message.specs.Lists.{tabulate}
@@ -38,8 +38,8 @@ module _ (hash : List ℕ → Digest) (p : Params) where
   commit f j = rootOf hash (height p j) (leaves f j)
 
   -- The layer after layer j.
-  unfoldable pub nextLayer : ℕ → Layer → Layer
-  nextLayer j l =
+  unfoldable pub layerAfter : ℕ → Layer → Layer
+  layerAfter j l =
       record {
         poly = fold (challenge hash (absorb hash (l .state) (commit (l .poly) j))) (l .poly);
         state = absorb hash (l .state) (commit (l .poly) j);
@@ -49,14 +49,14 @@ module _ (hash : List ℕ → Digest) (p : Params) where
     -- Layer j, from the polynomial f with all its coefficients.
     unfoldable pub layerAt : ℕ → Layer
     layerAt zero = record { poly = padded (2 ^ (p .n - p .b)) f; state = start hash (header p) context }
-    layerAt (suc j) = nextLayer j (layerAt j)
+    layerAt (suc j) = layerAfter j (layerAt j)
 
     unfoldable pub builtRoot : ℕ → Digest
     builtRoot j = commit (layerAt j .poly) j
 
     -- Query i's leaf in layer 0, drawn after all roots and the final coefficients.
     unfoldable pub builtLeaf : ℕ → ℕ
-    builtLeaf i = drawn hash (finish hash (layerAt (p .k) .state) (layerAt (p .k) .poly)) (indexBits p) i
+    builtLeaf i = draw hash (absorbFinal hash (layerAt (p .k) .state) (layerAt (p .k) .poly)) (indexBits p) i
 
     -- The opening of leaf m of layer j.
     unfoldable pub openingOf : ℕ → ℕ → Opening

@@ -9,7 +9,7 @@ use native.Mathlib.Omega.{arith}
 use lib.ListN.{length, take, getD}
 use Rattle.answer.specs.declared.Answer.{Answer}
 use Rattle.answer.specs.Table.{answered, open-so-far, closed}
-use Rattle.calls.specs.Calls.{Call, piece, end, hasEnd, endsOnce, joined, inOnePiece, Reader, next, stateAfter, answers, lastOr, leaves, given, lastGiven, Refuses, byByte}
+use Rattle.calls.specs.Calls.{Call, piece, end, hasEnd, endsOnce, joined, inOnePiece, Reader, next, stateAfter, answers, lastOr, stateLeft, given, lastGiven, Refuses, byByte}
 use Rattle.calls.specs.Plain.{Table, decide, afterPiece, afterEnd, holds, plain}
 use Rattle.calls.specs.Demand3.{Demand3, StateRule, Alike, toPiece}
 use Rattle.calls.proofs.Decide.{decide-stays}
@@ -123,7 +123,7 @@ module _ {S : Type 0} (t : Table) (r : Reader S) (closes : Shut r (r .opened)) (
   pub refused-opening : given r cs ≡ given (plain t true) cs
   refused-opening = shut-given t r closes cs [] true
 
-  pub refused-leaves : leaves r cs ≡ r .opened
+  pub refused-leaves : stateLeft r cs ≡ r .opened
   refused-leaves = shut-leaves t r closes cs
 
 module _ {S : Type 0} (t : Table) (r : Reader S) (f : Follows t r) where
@@ -141,11 +141,11 @@ module _ {S : Type 0} (t : Table) (r : Reader S) (f : Follows t r) where
   open-leaves (piece xs ∷ cs) bs = rw (f .piece-next bs xs, ← append-assoc bs xs (joined cs)) (open-leaves cs (bs ++ xs))
   open-leaves (end ∷ cs) bs = rw (f .end-next bs) (shut-leaves t r (f .closes) cs)
 
-  pub state-left : (cs : List Call) → leaves r cs ≡ cond (hasEnd cs) (f .shut) (f .stateOf (joined cs))
+  pub state-left : (cs : List Call) → stateLeft r cs ≡ cond (hasEnd cs) (f .shut) (f .stateOf (joined cs))
   state-left cs = rw (f .starts) (open-leaves cs [])
 
   -- A piece after calls with no end call: the state of the bytes joined, and the plain reader's answer for them.
-  after-piece : (cs : List Call) (xs : List ℕ) → hasEnd cs ≡ false → r .pieceNext (leaves r cs) xs ≡ f .stateOf (joined cs ++ xs)
+  after-piece : (cs : List Call) (xs : List ℕ) → hasEnd cs ≡ false → r .pieceNext (stateLeft r cs) xs ≡ f .stateOf (joined cs ++ xs)
   after-piece cs xs e = ap (λ s. r .pieceNext s xs) (rw e at (state-left cs)) ∙ f .piece-next (joined cs) xs
 
   pub to-piece : (cs : List Call) (xs : List ℕ) → hasEnd cs ≡ false → toPiece r cs xs ≡ afterPiece t (joined cs ++ xs)
@@ -180,7 +180,7 @@ module _ {S : Type 0} (t : Table) (r : Reader S) (f : Follows t r) where
         ∙ f .stays (joined cs ++ xs) ys _ (refusal xs e w)
         ∙ sym (after-piece cs xs e);
     closed-stays = λ c e.
-        let now : leaves r cs ≡ f .shut = rw e at (state-left cs) in
+        let now : stateLeft r cs ≡ f .shut = rw e at (state-left cs) in
         ap (λ s. next r s c) now ∙ shut-stays c ∙ sym now;
   }
     where

@@ -67,8 +67,8 @@ lastOr a (b ∷ more) = lastOr b more
 -- The same from the opened state on: the state left, the answers given, answer number i, counted from 0, and the last one. Where there is no such
 -- answer, 0 at 0 stands for it.
 module _ {S : Type 0} (r : Reader S) (cs : List Call) where
-  abbrev pub leaves : S
-  leaves = stateAfter r (r .opened) cs
+  abbrev pub stateLeft : S
+  stateLeft = stateAfter r (r .opened) cs
 
   abbrev pub given : List Answer
   given = answers r (r .opened) cs

@@ -8,7 +8,7 @@ use mathlib.Core.Path.{_≡_}
 use lib.ListN.{length, take}
 use Rattle.answer.specs.declared.Answer.{Answer}
 use Rattle.answer.specs.Table.{answered, open-so-far, accepted, closed}
-use Rattle.calls.specs.Calls.{Call, hasEnd, endsOnce, joined, inOnePiece, Reader, next, leaves, given, nth, lastGiven, Refuses}
+use Rattle.calls.specs.Calls.{Call, hasEnd, endsOnce, joined, inOnePiece, Reader, next, stateLeft, given, nth, lastGiven, Refuses}
 use Rattle.calls.specs.Plain.{Table, plain}
 
 -- Two lists of calls bring the same bytes before the first end call, if there is one, and both or neither have an end call.
@@ -21,7 +21,7 @@ pub record Demand3 {S : Type 0} (t : Table) (r : Reader S) (cs : List Call) : Ty
   -- Every answer, its number and its place, is the one that the plain reader gives in the same list.
   pub plainly : given r cs ≡ given (plain t false) cs
   -- Any second list alike leaves the same state.
-  pub states : (ds : List Call) → Alike cs ds → leaves r cs ≡ leaves r ds
+  pub states : (ds : List Call) → Alike cs ds → stateLeft r cs ≡ stateLeft r ds
   -- Where both lists close with their only end call, that call gets the same answer in both.
   pub lasts : (ds : List Call) → Alike cs ds → endsOnce cs ≡ true → endsOnce ds ≡ true → lastGiven r cs ≡ lastGiven r ds
   -- One piece with all those bytes, and then an end call if cs has one, is such a second list.
@@ -33,7 +33,7 @@ pub record Demand3 {S : Type 0} (t : Table) (r : Reader S) (cs : List Call) : Ty
 
 -- The answer to the piece xs after the calls cs.
 abbrev pub toPiece : {S : Type 0} → Reader S → List Call → List ℕ → Answer
-toPiece r cs xs = r .pieceAnswer (leaves r cs) xs
+toPiece r cs xs = r .pieceAnswer (stateLeft r cs) xs
 
 -- The bytes bs come in the pieces cs, among which is no end call, and last the piece xs.
 pub record InPieces (bs : List ℕ) (cs : List Call) (xs : List ℕ) : Type 0 where
@@ -59,11 +59,11 @@ pub record PrefixRule {S : Type 0} (r : Reader S) : Type 0 where
 pub record StateRule {S : Type 0} (r : Reader S) (cs : List Call) : Type 0 where
   -- Where the piece xs is refused, any next piece ys gets the same answer, and leaves the state as it is.
   pub refused-answer : (xs ys : List ℕ) → hasEnd cs ≡ false → Refuses (toPiece r cs xs)
-      → r .pieceAnswer (r .pieceNext (leaves r cs) xs) ys ≡ toPiece r cs xs
+      → r .pieceAnswer (r .pieceNext (stateLeft r cs) xs) ys ≡ toPiece r cs xs
   pub refused-stays : (xs ys : List ℕ) → hasEnd cs ≡ false → Refuses (toPiece r cs xs)
-      → r .pieceNext (r .pieceNext (leaves r cs) xs) ys ≡ r .pieceNext (leaves r cs) xs
+      → r .pieceNext (r .pieceNext (stateLeft r cs) xs) ys ≡ r .pieceNext (stateLeft r cs) xs
   -- After an end call, any call leaves the state as it is.
-  pub closed-stays : (c : Call) → hasEnd cs ≡ true → next r (leaves r cs) c ≡ leaves r cs
+  pub closed-stays : (c : Call) → hasEnd cs ≡ true → next r (stateLeft r cs) c ≡ stateLeft r cs
 
 -- What the table says of the answers 0 and 1, where `size` is the length of a file that begins with the bytes so far, or none while they do not tell
 -- it: of answer number i to the calls cs, counted from 0.

@@ -10,7 +10,7 @@ use Rattle.answer.specs.declared.Answer.{Answer}
 use Rattle.answer.specs.Table.{answered, open-so-far, accepted}
 use Rattle.params.specs.declared.Terms.{Terms}
 use Rattle.fri.specs.Size.{knownLength}
-use Rattle.calls.specs.Calls.{Call, piece, end, hasEnd, endsOnce, stateAfter, answers, next, leaves, given, nth, lastOr, lastGiven, Refuses, Reader as Calls}
+use Rattle.calls.specs.Calls.{Call, piece, end, hasEnd, endsOnce, stateAfter, answers, next, stateLeft, given, nth, lastOr, lastGiven, Refuses, Reader as Calls}
 use Rattle.calls.specs.Plain.{Table}
 use Rattle.calls.specs.Demand3.{Demand3, StateRule, PrefixRule, SizeRule, Agree, InPieces, toPiece}
 use Rattle.reader_model.specs.declared.Tables.{Tables}
@@ -52,7 +52,7 @@ module _ {S H : Type 0} (f : S → H) (r : Calls S) (b : Calls H) (i : Stands f 
       ∙ ap (λ h. r .endAnswer s ∷ answers b h cs) (i .end-next s)
       ∙ ap (λ (l : List Answer). r .endAnswer s ∷ l) (answered-from (r .endNext s) cs)
 
-  pub leaves-image : (cs : List Call) → leaves b cs ≡ f (leaves r cs)
+  pub leaves-image : (cs : List Call) → stateLeft b cs ≡ f (stateLeft r cs)
   leaves-image cs = ap (λ h. stateAfter b h cs) (i .opened) ∙ after (r .opened) cs
 
   pub given-image : (cs : List Call) → given b cs ≡ given r cs
@@ -65,10 +65,10 @@ module _ {S H : Type 0} (f : S → H) (r : Calls S) (b : Calls H) (i : Stands f 
   last-image cs = ap (lastOr (answered open-so-far 0)) (given-image cs)
 
   to-piece : (cs : List Call) (xs : List ℕ) → toPiece b cs xs ≡ toPiece r cs xs
-  to-piece cs xs = ap (λ h. b .pieceAnswer h xs) (leaves-image cs) ∙ i .piece-answer (leaves r cs) xs
+  to-piece cs xs = ap (λ h. b .pieceAnswer h xs) (leaves-image cs) ∙ i .piece-answer (stateLeft r cs) xs
 
-  piece-left : (cs : List Call) (xs : List ℕ) → b .pieceNext (leaves b cs) xs ≡ f (r .pieceNext (leaves r cs) xs)
-  piece-left cs xs = ap (λ h. b .pieceNext h xs) (leaves-image cs) ∙ i .piece-next (leaves r cs) xs
+  piece-left : (cs : List Call) (xs : List ℕ) → b .pieceNext (stateLeft b cs) xs ≡ f (r .pieceNext (stateLeft r cs) xs)
+  piece-left cs xs = ap (λ h. b .pieceNext h xs) (leaves-image cs) ∙ i .piece-next (stateLeft r cs) xs
 
   demand3-image : {t : Table} (cs : List Call) → Demand3 t r cs → Demand3 t b cs
   demand3-image cs d =
@@ -85,13 +85,13 @@ module _ {S H : Type 0} (f : S → H) (r : Calls S) (b : Calls H) (i : Stands f 
   states-image cs z =
       record {
         refused-answer = λ xs ys e g.
-            ap (λ h. b .pieceAnswer h ys) (piece-left cs xs) ∙ i .piece-answer (r .pieceNext (leaves r cs) xs) ys
+            ap (λ h. b .pieceAnswer h ys) (piece-left cs xs) ∙ i .piece-answer (r .pieceNext (stateLeft r cs) xs) ys
             ∙ z .refused-answer xs ys e (subst Refuses (to-piece cs xs) g) ∙ sym (to-piece cs xs);
         refused-stays = λ xs ys e g.
-            ap (λ h. b .pieceNext h ys) (piece-left cs xs) ∙ i .piece-next (r .pieceNext (leaves r cs) xs) ys
+            ap (λ h. b .pieceNext h ys) (piece-left cs xs) ∙ i .piece-next (r .pieceNext (stateLeft r cs) xs) ys
             ∙ ap f (z .refused-stays xs ys e (subst Refuses (to-piece cs xs) g)) ∙ sym (piece-left cs xs);
         closed-stays = λ c e.
-            ap (λ h. next b h c) (leaves-image cs) ∙ next-image (leaves r cs) c ∙ ap f (z .closed-stays c e) ∙ sym (leaves-image cs);
+            ap (λ h. next b h c) (leaves-image cs) ∙ next-image (stateLeft r cs) c ∙ ap f (z .closed-stays c e) ∙ sym (leaves-image cs);
       }
 
   prefix-image : PrefixRule r → PrefixRule b
@@ -151,8 +151,8 @@ module _ {S H : Type 0} (f : S → H) (r : Calls S) (b : Calls H) (i : Stands f 
           closes = λ cs e. leaves-image cs ∙ ap f (w .closes cs e);
           refused-leaves = λ cs x e g.
               piece-left cs (x ∷ []) ∙ ap f (w .refused-leaves cs x e (subst Refuses (to-piece cs (x ∷ [])) g))
-              ∙ ap (λ (a : Answer). f (k .refusedWith a (k .tablesIn (leaves r cs)))) (sym (to-piece cs (x ∷ [])))
-              ∙ ap (λ (t : Tables). f (k .refusedWith (toPiece b cs (x ∷ [])) t)) (sym (ap tables (leaves-image cs) ∙ same-tables (leaves r cs)));
+              ∙ ap (λ (a : Answer). f (k .refusedWith a (k .tablesIn (stateLeft r cs)))) (sym (to-piece cs (x ∷ [])))
+              ∙ ap (λ (t : Tables). f (k .refusedWith (toPiece b cs (x ∷ [])) t)) (sym (ap tables (leaves-image cs) ∙ same-tables (stateLeft r cs)));
         }
 
     pub demands-image : Demands a opening k r → Demands a opening (image tables k) b

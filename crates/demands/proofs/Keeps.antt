@@ -12,7 +12,7 @@ use Rattle.reader_model.specs.declared.Core.{Core}
 use Rattle.reader_model.specs.declared.Tables.{Tables}
 use Rattle.reader_model.specs.declared.Reader.{Reader}
 use Rattle.reader_model.specs.State.{itemLength}
-use Rattle.reader_model.specs.Items.{sane, numberOf, finals, afterRoot, afterCoefficient, coefficientsAfter, afterItem, advanced}
+use Rattle.reader_model.specs.Items.{sane, itemNumber, finals, afterRoot, afterCoefficient, coefficientsAfter, afterItem, advanced}
 use Rattle.reader_model.specs.Model.{stored, step, isStopped}
 
 module _ (hash : List ℕ → Digest) where
@@ -27,9 +27,9 @@ module _ (hash : List ℕ → Digest) where
 
   coefficient-kept : (c : Core) (l : List ℕ) → isStopped (afterCoefficient hash c l .stage) ≡ true → coefficientsAfter hash c l ≡ l
   unfolding afterCoefficient coefficientsAfter
-  coefficient-kept c l e = by (ltb (numberOf c) modulus) refl (ltb (c .cursor .coefficient + 1) (finals c)) refl
+  coefficient-kept c l e = by (ltb (itemNumber c) modulus) refl (ltb (c .cursor .coefficient + 1) (finals c)) refl
     where
-      by : (b : Bool) → ltb (numberOf c) modulus ≡ b → (d : Bool) → ltb (c .cursor .coefficient + 1) (finals c) ≡ d → coefficientsAfter hash c l ≡ l
+      by : (b : Bool) → ltb (itemNumber c) modulus ≡ b → (d : Bool) → ltb (c .cursor .coefficient + 1) (finals c) ≡ d → coefficientsAfter hash c l ≡ l
       by false t d u = rw t
       by true t true u = absurd (false≢true (rw (t, u) at e))
       by true t false u = absurd (false≢true (rw (t, u) at e))

@@ -15,7 +15,7 @@ use Rattle.params.specs.Admission.{admissionOf, Admitted}
 use Rattle.params.proofs.AdmissionLaws.{admitted, refused, admitted-valid, refused-not-valid, admits-true, admits-false, admitted-or-not}
 use Rattle.fri.specs.Judge.{verdict}
 use Rattle.rules.proofs.Exactly.{piece-exactly, verdict-exactly}
-use Rattle.calls.specs.Calls.{Call, hasEnd, leaves, given, nth, Reader as Calls}
+use Rattle.calls.specs.Calls.{Call, hasEnd, stateLeft, given, nth, Reader as Calls}
 use Rattle.calls.specs.Plain.{Plain, holds, plain}
 use Rattle.calls.specs.Demand3.{Demand3}
 use Rattle.reader_model.specs.declared.Reader.{Reader}
@@ -65,7 +65,7 @@ module _ (a : Terms) where
         prefixes = c [] .prefixes;
         sizes = λ cs. c cs .sizes;
         closes = λ cs. c cs .closed-state;
-        refused-leaves = λ cs x e g. refused-state (leaves r cs) x (c cs .refused-core (x ∷ []) e g);
+        refused-leaves = λ cs x e g. refused-state (stateLeft r cs) x (c cs .refused-core (x ∷ []) e g);
       }
 
   refused-demands : ¬ Admitted a → WhenRefused a (opened sha256 a .answer) byValueStates r

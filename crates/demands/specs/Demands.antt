@@ -19,7 +19,7 @@ use Rattle.params.specs.Admission.{admissionOf, Admitted}
 use Rattle.fri.specs.Size.{knownLength, isWholeFile}
 use Rattle.fri.specs.Accepted.{Accepted}
 use Rattle.rules.specs.Rules.{Refused, NoFault, PieceRow, VerdictRow}
-use Rattle.calls.specs.Calls.{Call, hasEnd, endsOnce, joined, leaves, given, nth, lastGiven, Refuses, Reader as Calls}
+use Rattle.calls.specs.Calls.{Call, hasEnd, endsOnce, joined, stateLeft, given, nth, lastGiven, Refuses, Reader as Calls}
 use Rattle.calls.specs.Plain.{Table, decide, plain}
 use Rattle.calls.specs.Demand3.{Demand3, StateRule, PrefixRule, SizeRule, toPiece}
 use Rattle.reader_model.specs.declared.Tables.{Tables}
@@ -73,15 +73,15 @@ pub record WhenAdmitted {S : Type 0} (a : Terms) (opening : Answer) (k : States 
   pub sizes : (cs : List Call) → SizeRule (knownLength (a .params)) r cs
   -- What is left behind. By an end call and any call after it: the closed state. By a byte that is refused: the refused state with its answer, and with
   -- the tables that were there before it. (Pieces leave what their bytes leave one by one, and a piece after a refusal leaves the state as it is.)
-  pub closes : (cs : List Call) → hasEnd cs ≡ true → leaves r cs ≡ k .shut
+  pub closes : (cs : List Call) → hasEnd cs ≡ true → stateLeft r cs ≡ k .shut
   pub refused-leaves : (cs : List Call) (x : ℕ) → hasEnd cs ≡ false → Refuses (toPiece r cs (x ∷ []))
-      → r .pieceNext (leaves r cs) (x ∷ []) ≡ k .refusedWith (toPiece r cs (x ∷ [])) (k .tablesIn (leaves r cs))
+      → r .pieceNext (stateLeft r cs) (x ∷ []) ≡ k .refusedWith (toPiece r cs (x ∷ [])) (k .tablesIn (stateLeft r cs))
 
 -- Where it is refused: the admission's number at 0, and then closed, in the one closed state.
 pub record WhenRefused {S : Type 0} (a : Terms) (opening : Answer) (k : States S) (r : Calls S) : Type 0 where
   pub refuses : opening ≡ answered (admissionOf a) 0
   pub closed-each : (cs : List Call) (i : ℕ) → i < length cs → nth r cs i ≡ answered closed 0
-  pub stays : (cs : List Call) → leaves r cs ≡ k .shut
+  pub stays : (cs : List Call) → stateLeft r cs ≡ k .shut
 
 -- With any arguments.
 pub record Demands {S : Type 0} (a : Terms) (opening : Answer) (k : States S) (r : Calls S) : Type 0 where

@@ -12,7 +12,7 @@ use Rattle.field.proofs.Inverse.{inverse-unique}
 use Rattle.message.specs.Bytes.{num}
 use Rattle.params.specs.Parameters.{valid, finalCount, fileLength, queriesOffset, queryLength}
 use Rattle.params.specs.Admission.{admission}
-use Rattle.transcript.specs.Transcript.{challenge, drawn}
+use Rattle.transcript.specs.Transcript.{challenge, draw}
 use Rattle.fold.specs.Poly.{eval, fold}
 use Rattle.fold.specs.Fold.{next}
 use Rattle.fold.proofs.FoldLaws.{fold-unique}
@@ -37,7 +37,7 @@ unfolding addMod subMod mulMod
 next-3 = sym (fold-unique 3 38 3221225439 3 38 (lit< tt) (lit< tt) (lit< tt) refl)
 
 pub examples-hold : Hold examples
-unfolding examples squares eval fold addMod mulMod valid admission finalCount fileLength queriesOffset queryLength valueAt leafAt drawnLeaf nextValue drawn challenge num verdict endAnswer run left outcome number pure bytes ensure _>>=_ _>>_
+unfolding examples squares eval fold addMod mulMod valid admission finalCount fileLength queriesOffset queryLength valueAt leafAt drawnLeaf nextValue draw challenge num verdict endAnswer run left outcome number pure bytes ensure _>>=_ _>>_
 examples-hold =
     Hold.more refl
     (Hold.more refl

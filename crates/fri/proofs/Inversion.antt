@@ -14,7 +14,7 @@ use Rattle.field.specs.Modular.{p as modulus}
 use Rattle.message.specs.Bytes.{le, num, joined, words, Bytes}
 use Rattle.message.specs.Message.{Digest}
 use Rattle.message.proofs.Bytes.{bytes-below, take-bytes, drop-bytes, taken-number}
-use Rattle.transcript.specs.Transcript.{start, absorb, drawn}
+use Rattle.transcript.specs.Transcript.{start, absorb, draw}
 use Rattle.fold.specs.Fold.{Expected, anything}
 use Rattle.fri.specs.Process.{Process, need, refused, ended, left, outcome, run, Parser, pure, _>>=_, _>>_, bytes, ensure, many}
 use Rattle.fri.specs.Encoding.{Opening, Proof, openingBytes, queryBytes, encode, IsDigest, IsOpening}
@@ -197,7 +197,7 @@ pub record Asked (hash : List ℕ → Digest) (p : Params) (final : List ℕ) (d
   pub queries : List (List Opening)
   pub count : length queries ≡ c
   pub bytes : us ≡ joined (map queryBytes queries)
-  pub chains : (t l : ℕ) → l ≡ i + t → t < c → Chain hash p final 0 (drawn hash drawing (indexBits p) l) anything s roots (getD queries t [])
+  pub chains : (t l : ℕ) → l ≡ i + t → t < c → Chain hash p final 0 (draw hash drawing (indexBits p) l) anything s roots (getD queries t [])
 
 module _ (hash : List ℕ → Digest) (p : Params) where
   inverts-walk : (final : List ℕ) (j m : ℕ) (e : Expected) (s : Digest) (roots : List Digest)
@@ -223,7 +223,7 @@ module _ (hash : List ℕ → Digest) (p : Params) where
       inverts-pure tt (record { queries = []; count = refl; bytes = refl; chains = λ t l e h. absurd (omega arith) })
   inverts-queries final drawing s roots (suc c) i =
       inverts-bind (λ _. queries hash p c (suc i) final drawing s roots)
-      (inverts-walk final 0 (drawn hash drawing (indexBits p) i) anything s roots) (λ _ us query.
+      (inverts-walk final 0 (draw hash drawing (indexBits p) i) anything s roots) (λ _ us query.
       weaken (inverts-queries final drawing s roots c (suc i)) (λ vs _ rest.
       record {
         queries = query .openings ∷ rest .queries;
@@ -232,9 +232,9 @@ module _ (hash : List ℕ → Digest) (p : Params) where
         chains = first query rest;
       }))
     where
-      first : {us vs : List ℕ} (query : Walked hash p final 0 (drawn hash drawing (indexBits p) i) anything s roots us)
+      first : {us vs : List ℕ} (query : Walked hash p final 0 (draw hash drawing (indexBits p) i) anything s roots us)
           (rest : Asked hash p final drawing s roots c (suc i) vs) (t l : ℕ) → l ≡ i + t → t < suc c
-          → Chain hash p final 0 (drawn hash drawing (indexBits p) l) anything s roots (getD (query .openings ∷ rest .queries) t [])
+          → Chain hash p final 0 (draw hash drawing (indexBits p) l) anything s roots (getD (query .openings ∷ rest .queries) t [])
       first query rest zero l e h = let same : l ≡ i = omega arith in rw same (query .chain)
       first query rest (suc t) l e h = rest .chains t l (omega arith) (omega arith)
 

@@ -14,7 +14,7 @@ use Rattle.field.specs.Modular.{p as modulus}
 use Rattle.message.specs.Bytes.{le, num, joined, words}
 use Rattle.message.specs.Message.{Digest}
 use Rattle.message.proofs.Bytes.{le-length, num-le-below}
-use Rattle.transcript.specs.Transcript.{start, finish, drawn, absorbed}
+use Rattle.transcript.specs.Transcript.{start, absorbFinal, draw, absorbed}
 use Rattle.fold.specs.Fold.{Expected, anything}
 use Rattle.fri.specs.Process.{many, bytes}
 use Rattle.fri.specs.Encoding.{Opening, Proof, openingBytes, queryBytes, encode, IsDigest, HasLayout}
@@ -56,7 +56,7 @@ module _ (hash : List ℕ → Digest) (p : Params) where
 
   -- Queries from query i on: the c-th of them is query l = i + c.
   reads-queries : (final : List ℕ) (t s : Digest) (roots : List Digest) (qs : List (List Opening)) (i : ℕ)
-      → ((c l : ℕ) → l ≡ i + c → c < length qs → Chain hash p final 0 (drawn hash t (indexBits p) l) anything s roots (getD qs c []))
+      → ((c l : ℕ) → l ≡ i + c → c < length qs → Chain hash p final 0 (draw hash t (indexBits p) l) anything s roots (getD qs c []))
       → Reads (queries hash p (length qs) i final t s roots) (joined (map queryBytes qs)) tt
   unfolding queries joined
   reads-queries final t s roots [] i chains = reads-pure tt
@@ -69,7 +69,7 @@ module _ (hash : List ℕ → Digest) (p : Params) where
   unfolding sections encode drawnLeaf
   reads-sections context proof v layout holds =
       let s : Digest = start hash (header p) context in
-      let t : Digest = finish hash (absorbed hash s (proof .roots)) (proof .final) in
+      let t : Digest = absorbFinal hash (absorbed hash s (proof .roots)) (proof .final) in
       reads-then (reads-count headerSize (omega arith))
       (reads-bind {xs = header p} _ (reads-bytes (header p) headerSize refl)
       (reads-test _ parameters-differ (same-self (header p))

@@ -9,7 +9,7 @@ use Rattle.answer.specs.Table.{answered, accepted, count-differs, parameters-di
 use Rattle.params.specs.declared.Params.{Params}
 use Rattle.params.specs.Parameters.{headerSize, header, valuesPerLeaf, height, leafCount, indexBits, finalCount, queryLength, queriesOffset, fileLength}
 use Rattle.message.specs.Message.{Digest}
-use Rattle.transcript.specs.Transcript.{start, absorb, finish, drawn, absorbed}
+use Rattle.transcript.specs.Transcript.{start, absorb, absorbFinal, draw, absorbed}
 use Rattle.fold.specs.Fold.{Expected, anything}
 use Rattle.fri.specs.Process.{Result, done, short, refused, ended}
 use Rattle.fri.specs.Judge.{count, number, walk, queries, sections, judgement, endAnswer}
@@ -39,7 +39,7 @@ module _ (hash : List ℕ → Digest) (p : Params) where
   unfolding queries
   takes-queries zero i final t s roots = rw zero-mul (takes-pure tt tt)
   takes-queries (suc c) i final t s roots =
-      rw total (takes-then (takes-walk final 0 (drawn hash t (indexBits p) i) anything s roots) (takes-queries c (suc i) final t s roots))
+      rw total (takes-then (takes-walk final 0 (draw hash t (indexBits p) i) anything s roots) (takes-queries c (suc i) final t s roots))
     where
       total : suc c * queryLength p 0 (length roots) ≡ queryLength p 0 (length roots) + c * queryLength p 0 (length roots)
       total = suc-mul c (queryLength p 0 (length roots)) ∙ omega arith
@@ -51,7 +51,7 @@ module _ (hash : List ℕ → Digest) (p : Params) where
       (takes-then (takes-count headerSize) (takes-bind _ (takes-bytes headerSize) (λ parameters _. takes-then (takes-ensure _ parameters-differ (omega arith))
       (takes-then (takes-count (p .k)) (takes-bind _ (takes-many (p .k) (takes-bytes 32)) (λ roots e. takes-then (takes-count (finalCount p))
       (takes-bind _ (takes-many (finalCount p) takes-number) (λ final _. takes-then (takes-count (p .q))
-      (rw e at (takes-queries (p .q) 0 final (finish hash (absorbed hash s roots) final) s roots))))))))))
+      (rw e at (takes-queries (p .q) 0 final (absorbFinal hash (absorbed hash s roots) final) s roots))))))))))
 
   -- From any first transcript, and so of the judgement.
   pub sections-width : (s : Digest) → Width (sections hash p s (λ _. done)) (fileLength p)

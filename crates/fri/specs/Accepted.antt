@@ -10,7 +10,7 @@ use Rattle.params.specs.Parameters.{header, indexBits, depth, leafCount}
 use Rattle.message.specs.Message.{Digest}
 use Rattle.domain.specs.Domain.{point}
 use Rattle.merkle.specs.Merkle.{climb, leafDigest}
-use Rattle.transcript.specs.Transcript.{start, challenge, finish, drawn, absorbed}
+use Rattle.transcript.specs.Transcript.{start, challenge, absorbFinal, draw, absorbed}
 use Rattle.fold.specs.Poly.{eval}
 use Rattle.fold.specs.Fold.{FoldsFrom}
 use Rattle.fri.specs.Encoding.{Proof, encode, HasLayout, rootAt, openingAt}
@@ -24,7 +24,7 @@ module _ (hash : List ℕ → Digest) (p : Params) (context : List ℕ) (proof :
   -- The leaf of query i in layer 0, from the transcript after all roots and the final coefficients; and in layer j. In layer 0 the drawn leaf is
   -- below the number of leaves already, so one formula serves all layers.
   unfoldable pub drawnLeaf : ℕ → ℕ
-  drawnLeaf i = drawn hash (finish hash (absorbed hash (start hash (header p) context) (proof .roots)) (proof .final)) (indexBits p) i
+  drawnLeaf i = draw hash (absorbFinal hash (absorbed hash (start hash (header p) context) (proof .roots)) (proof .final)) (indexBits p) i
 
   unfoldable pub leafAt : ℕ → ℕ → ℕ
   leafAt i j = drawnLeaf i % leafCount p j

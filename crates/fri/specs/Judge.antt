@@ -16,7 +16,7 @@ use Rattle.message.specs.Bytes.{num}
 use Rattle.message.specs.Message.{Digest}
 use Rattle.domain.specs.Domain.{point}
 use Rattle.merkle.specs.Merkle.{climb, leafDigest}
-use Rattle.transcript.specs.Transcript.{start, absorb, challenge, finish, drawn, absorbed}
+use Rattle.transcript.specs.Transcript.{start, absorb, challenge, absorbFinal, draw, absorbed}
 use Rattle.fold.specs.Poly.{eval}
 use Rattle.fold.specs.Fold.{Expected, anything, expected, fits}
 use Rattle.fri.specs.Process.{Process, Result, run, Parser, pure, _>>=_, _>>_, bytes, ensure, many, done, short, refused, ended}
@@ -61,7 +61,7 @@ module _ (hash : List ℕ → Digest) (p : Params) where
   unfoldable pub queries : ℕ → ℕ → List ℕ → Digest → Digest → List Digest → Parser (Unit {0})
   queries zero i final t s roots = pure tt
   queries (suc c) i final t s roots = do
-    walk final 0 (drawn hash t (indexBits p) i) anything s roots
+    walk final 0 (draw hash t (indexBits p) i) anything s roots
     queries c (suc i) final t s roots
 
   -- The four sections, where s is the transcript before the roots.
@@ -75,7 +75,7 @@ module _ (hash : List ℕ → Digest) (p : Params) where
     count (finalCount p)
     final ← many (finalCount p) number
     count (p .q)
-    queries (p .q) 0 final (finish hash (absorbed hash s roots) final) s roots
+    queries (p .q) 0 final (absorbFinal hash (absorbed hash s roots) final) s roots
 
   -- The judgement as a process: the transcript starts from the parameters and the context.
   unfoldable pub judgement : List ℕ → Process

@@ -24,7 +24,7 @@ use denote.Array.{Array, array-vals, array-tells, array-makes, array-lawful}
 use denote.Steps.{only, owned, peeks, heard}
 use denote.Struct.Laws as LL
 use Rattle.sha256.specs.Sha256.{sha256}
-use Rattle.transcript.specs.Transcript.{absorb, finish}
+use Rattle.transcript.specs.Transcript.{absorb, absorbFinal}
 use Rattle.transcript.specs.declared.Transcript.{Transcript}
 use Rattle.transcript.proofs.Transcript as T
 use Rattle.transcript.proofs.Transcript.Laws as T′
@@ -72,7 +72,7 @@ rooted t root = with-state (absorb sha256 (t .state) root)
 
 -- and what the first so many of the final coefficients leave
 abbrev pub finished : Transcript → List ℕ → ℕ → Transcript
-finished t cs n = with-state (finish sha256 (t .state) (take n cs))
+finished t cs n = with-state (absorbFinal sha256 (t .state) (take n cs))
 
 -- what a call returns that returns nothing
 pub unit-typed : (v : Val) → v ≡ vunit → So (hasTy tyUnit v) × WT v

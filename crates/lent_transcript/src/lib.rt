@@ -22,7 +22,7 @@ pub fn absorb_layer(t: &mut Transcript, root: [u8; 32]) -> u32
 
 // Absorbs the first count of the final coefficients in place.
 pub fn absorb_final(t: &mut Transcript, coefficients: [u32; 64], count: usize)
-    ensures { λ _. ⌜ now (t .exit) .state ≡ spec.finish sha256 (now (t .entry) .state) (take count coefficients) ⌝ }
+    ensures { λ _. ⌜ now (t .exit) .state ≡ spec.absorbFinal sha256 (now (t .entry) .state) (take count coefficients) ⌝ }
 {
     *t = t.absorb_final(coefficients, count);
 }
@@ -47,7 +47,7 @@ pub fn layer(t: Transcript, root: [u8; 32]) -> Absorbed
 }
 
 pub fn finish(t: Transcript, coefficients: [u32; 64], count: usize) -> [u8; 32]
-    ensures { λ r. ⌜ r ≡ spec.finish sha256 (t .state) (take count coefficients) ⌝ }
+    ensures { λ r. ⌜ r ≡ spec.absorbFinal sha256 (t .state) (take count coefficients) ⌝ }
 {
     let mut lent = t;
     absorb_final(&mut lent, coefficients, count);

@@ -6,7 +6,7 @@ use native.Mathlib.Nat.{pow-suc, pow-zero}
 use native.Mathlib.Omega.{arith}
 use lib.ListN.{length, getD}
 use Rattle.message.specs.Message.{Digest}
-use Rattle.merkle.specs.Merkle.{leafDigest, sibling, node, join, above, rootOf, path, climb}
+use Rattle.merkle.specs.Merkle.{leafDigest, sibling, node, parent, above, rootOf, path, climb}
 
 -- A node's sibling stands in the same row.
 pub sibling-below : (m k b : ℕ) → m % 2 ≡ b → m < 2 * k → sibling b m < 2 * k
@@ -43,11 +43,11 @@ module _ (hash : List ℕ → Digest) where
 
   -- The node above node m joins it with its sibling.
   join-at : (row : List Digest) (m : ℕ) → m / 2 * 2 + 1 < length row
-      → join hash (m % 2) (getD row m []) (getD row (sibling (m % 2) m) []) ≡ getD (above hash row) (m / 2) []
-  unfolding join sibling
+      → parent hash (m % 2) (getD row m []) (getD row (sibling (m % 2) m) []) ≡ getD (above hash row) (m / 2) []
+  unfolding parent sibling
   join-at row m h = go (m % 2) refl
     where
-      go : (b : ℕ) → m % 2 ≡ b → join hash b (getD row m []) (getD row (sibling b m) []) ≡ getD (above hash row) (m / 2) []
+      go : (b : ℕ) → m % 2 ≡ b → parent hash b (getD row m []) (getD row (sibling b m) []) ≡ getD (above hash row) (m / 2) []
       go zero e = ap (λ k. node hash (getD row k []) (getD row (k + 1) [])) (omega arith) ∙ sym (above-at row (m / 2) (omega arith))
       go (suc b) e = ap₂ (λ i k. node hash (getD row i []) (getD row k [])) (omega arith) (omega arith) ∙ sym (above-at row (m / 2) (omega arith))
 

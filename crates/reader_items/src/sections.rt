@@ -5,7 +5,7 @@ ghost use lib.ListN.{take};
 ghost use lib.Seq.{sets};
 ghost use Rattle.sha256.specs.Sha256.{sha256};
 ghost use Rattle.params.specs.Parameters.{headerSize, header};
-ghost use Rattle.transcript.specs.Transcript.{finish};
+ghost use Rattle.transcript.specs.Transcript.{absorbFinal};
 ghost use Rattle.fri.specs.Judge.{sameBytes};
 ghost use Rattle.reader_model.specs.Items.{afterCount, afterParameters, afterRoot, rootsAfter, challengesAfter, afterCoefficient, coefficientsAfter, atQuery, afterQueryCount};
 ghost use Rattle.reader_items.specs.Private.{Sane};
@@ -102,7 +102,7 @@ pub fn after_root(c: Core, roots: &mut [u8; ROOTS], challenges: &mut [u32; CHALL
 
 // The transcript after the first count of the coefficients.
 fn absorbed_final(state: [u8; 32], coefficients: [u32; COEFFICIENTS], count: usize) -> [u8; 32]
-    ensures { λ r. ⌜ r ≡ finish sha256 state (take count coefficients) ⌝ }
+    ensures { λ r. ⌜ r ≡ absorbFinal sha256 state (take count coefficients) ⌝ }
 {
     lent_transcript::finish(Transcript { state: state }, coefficients, count)
 }

@@ -11,8 +11,8 @@ use Rattle.answer.specs.Table.{not-the-folded-value, path-misses-root, misses-f
 use Rattle.message.specs.Message.{Digest}
 use Rattle.params.specs.Parameters.{indexBits, depth, valuesPerLeaf, height}
 use Rattle.domain.specs.Domain.{point}
-use Rattle.merkle.specs.Merkle.{leafDigest, join}
-use Rattle.transcript.specs.Transcript.{absorb, challenge, drawn, absorbed}
+use Rattle.merkle.specs.Merkle.{leafDigest, parent}
+use Rattle.transcript.specs.Transcript.{absorb, challenge, draw, absorbed}
 use Rattle.fold.specs.Poly.{eval}
 use Rattle.fold.specs.Fold.{anything, expected, fits}
 use Rattle.fri.specs.Process.{bytes, many, pure, _>>=_, _>>_}
@@ -21,7 +21,7 @@ use Rattle.reader_model.specs.declared.Stage.the-variants.{Value}
 use Rattle.reader_model.specs.declared.Core.{Core}
 use Rattle.reader_model.specs.declared.Tables.{Tables}
 use Rattle.reader_model.specs.State.{place, movedTo, withWalk}
-use Rattle.reader_model.specs.Items.{numberOf, finals, valuesWith, leafOf, leafIndex, leafPoint, linked, rooted, finished, atQuery, atLeaf, afterLeaf, afterValue, climbed, nextQuery, nextLayer, afterPath, afterSibling}
+use Rattle.reader_model.specs.Items.{itemNumber, finals, valuesWith, leafOf, leafIndex, leafPoint, linked, rooted, finished, atQuery, atLeaf, afterLeaf, afterValue, climbed, nextQuery, nextLayer, afterPath, afterSibling}
 use Rattle.reader_model.proofs.Filled.{Filled, filled-set, filled-take, filled-at, filled-block, challenges, challenges-append, challenges-length, absorbed-snoc}
 use Rattle.reader_model.proofs.Rest.{numbered, wanted, toQueries, Late, Walking, toNext, toLayers, withNode, toSiblings, withLeaf, withValue, walk-is, siblings-more, siblings-none, at-cursor, with-values, Sound, WalkingAt, value, sibling, After, goes, ends}
 use Rattle.reader_model.proofs.Stages.{finals-are, pred-of, leaves-as, leaves-true, leaves-false, tested, after-number}
@@ -53,8 +53,8 @@ module _ (hash : List ℕ → Digest) (first : Digest) (c : Core) (t : Tables) (
       (goes
       (at-cursor s (omega arith) (omega arith) (omega arith) (omega arith) (omega arith))
       (value w {values = []} rest refl (record { sized = s .values-size; starts = refl }) refl (omega arith)) refl refl)
-      (sym (walk-is hash (c .params) first w (drawn hash (c .transcript) (indexBits (c .params)) i) anything rest values-are)
-      ∙ ap (λ u. walk hash (c .params) final 0 (drawn hash u (indexBits (c .params)) i) anything (w .earlier) (root ∷ after)
+      (sym (walk-is hash (c .params) first w (draw hash (c .transcript) (indexBits (c .params)) i) anything rest values-are)
+      ∙ ap (λ u. walk hash (c .params) final 0 (draw hash u (indexBits (c .params)) i) anything (w .earlier) (root ∷ after)
       (λ _. toNext hash (c .params) first w)) (l .transcript-is))
 
   -- The end of a query.
@@ -108,15 +108,15 @@ module _ (hash : List ℕ → Digest) (first : Digest) (c : Core) (t : Tables) (
     unfolding afterValue afterLeaf linked atLeaf many number pure _>>=_ _>>_ bytes
     after-value {values} zero h f e total =
         let (left, height-is) = pred-of (height (c .params) (c .cursor .layer)) (omega (arith, layers-are)) in
-        let all : leafOf c (valuesWith c) ≡ values ++ numberOf c ∷ [] =
-        filled-take (filled-set f (c .cursor .value) (numberOf c) e (omega arith)) (valuesPerLeaf (c .params)) (rw length-append (omega arith)) in
+        let all : leafOf c (valuesWith c) ≡ values ++ itemNumber c ∷ [] =
+        filled-take (filled-set f (c .cursor .value) (itemNumber c) e (omega arith)) (valuesPerLeaf (c .params)) (rw length-append (omega arith)) in
         let β = getD (t .challenges) (c .cursor .layer) 0 in
         let vs = leafOf c (valuesWith c) in
         after-number c t (withValue hash (c .params) first w (c .walk .index) (wanted (c .walk)) values zero) (λ _.
         leaves-false _ _ (le-ltb (c .cursor .value + 1) (valuesPerLeaf (c .params)) (omega arith))
         (tested c _ _ not-the-folded-value _ refl
         (ap (λ u. fits (wanted (c .walk)) (valueAt (c .params) (c .cursor .layer) (c .walk .index) u)) all) (λ _.
-        leaves-as (goes (with-values s (length-set (c .walk .values) (c .cursor .value) (numberOf c) ∙ s .values-size)) (sibling w left (omega arith)) refl refl)
+        leaves-as (goes (with-values s (length-set (c .walk .values) (c .cursor .value) (itemNumber c) ∙ s .values-size)) (sibling w left (omega arith)) refl refl)
         (sym (siblings-more hash (c .params) first w (leafIndex c) (expected (leafPoint c) β vs) left (leafDigest hash (c .cursor .layer) vs) (leafIndex c))
         ∙ ap₂ (λ u d. toSiblings hash (c .params) first w (leafIndex c) (expected (leafPoint c) u vs) d (leafDigest hash (c .cursor .layer) vs) (leafIndex c))
         challenge-is (sym height-is)
@@ -128,13 +128,13 @@ module _ (hash : List ℕ → Digest) (first : Digest) (c : Core) (t : Tables) (
         leaves-true _ _ (lt-ltb (c .cursor .value + 1) (valuesPerLeaf (c .params)) (omega arith))
         (leaves-as
         (goes
-        (at-cursor (with-values s (length-set (c .walk .values) (c .cursor .value) (numberOf c) ∙ s .values-size)) (omega arith) (omega arith) (omega arith)
+        (at-cursor (with-values s (length-set (c .walk .values) (c .cursor .value) (itemNumber c) ∙ s .values-size)) (omega arith) (omega arith) (omega arith)
         (omega arith) (omega arith))
-        (value w {values = values ++ numberOf c ∷ []} more h (filled-set f (c .cursor .value) (numberOf c) e (omega arith)) (rw length-append (omega arith))
+        (value w {values = values ++ itemNumber c ∷ []} more h (filled-set f (c .cursor .value) (itemNumber c) e (omega arith)) (rw length-append (omega arith))
         (rw length-append (omega arith)))
         refl refl)
         (ap (many (suc more) number) (fun-ext (λ rest.
-        ap (withLeaf hash (c .params) first w (c .walk .index) (wanted (c .walk))) (append-assoc values (numberOf c ∷ []) rest))))))
+        ap (withLeaf hash (c .params) first w (c .walk .index) (wanted (c .walk))) (append-assoc values (itemNumber c ∷ []) rest))))))
 
     -- The end of a layer.
     next-layer : After hash first (nextLayer hash c (t .coefficients)) t (place c)
@@ -188,7 +188,7 @@ module _ (hash : List ℕ → Digest) (first : Digest) (c : Core) (t : Tables) (
 module _ (hash : List ℕ → Digest) (first : Digest) (c : Core) (t : Tables) (s : Sound c) (w : WalkingAt hash first c t) where
   pub after-sibling : (more : ℕ) → c .cursor .height + suc more ≡ height (c .params) (c .cursor .layer)
       → After hash first (afterSibling hash c (t .roots) (t .coefficients)) t (place c)
-      (toSiblings hash (c .params) first w (c .walk .index) (wanted (c .walk)) more (join hash (c .walk .position % 2) (c .walk .node) (c .item))
+      (toSiblings hash (c .params) first w (c .walk .index) (wanted (c .walk)) more (parent hash (c .walk .position % 2) (c .walk .node) (c .item))
       (c .walk .position / 2))
   unfolding afterSibling climbed
   after-sibling zero h =

@@ -13,8 +13,8 @@ use Rattle.message.proofs.Bytes.{Sized}
 use Rattle.params.specs.declared.Params.{Params}
 use Rattle.params.specs.Parameters.{Valid, headerSize, header, finalCount, depth, valuesPerLeaf, height, leafCount}
 use Rattle.domain.specs.Domain.{point}
-use Rattle.merkle.specs.Merkle.{climb, leafDigest, join}
-use Rattle.transcript.specs.Transcript.{absorb, challenge, finish, absorbed}
+use Rattle.merkle.specs.Merkle.{climb, leafDigest, parent}
+use Rattle.transcript.specs.Transcript.{absorb, challenge, absorbFinal, absorbed}
 use Rattle.fold.specs.Fold.{Expected, expected, fits}
 use Rattle.fri.specs.Process.{Process, bytes, ensure, many, pure, _>>=_, _>>_, done, fail, need}
 use Rattle.fri.specs.Judge.{sameBytes, valueAt, count, number, walk, queries, sections}
@@ -41,7 +41,7 @@ wanted w = record { scale = w .scale; folded = w .folded }
 module _ (hash : List ℕ → Digest) (p : Params) (first : Digest) where
   -- The transcript that draws the queries, where `first` is the one before the roots.
   abbrev pub drawing : List Digest → List ℕ → Digest
-  drawing roots final = finish hash (absorbed hash first roots) final
+  drawing roots final = absorbFinal hash (absorbed hash first roots) final
 
   -- What is left before count queries from query i on; before the sections 4, 3 and 2; and with the bytes of the parameters.
   abbrev pub toQueries : List Digest → List ℕ → ℕ → ℕ → Process
@@ -137,7 +137,7 @@ module _ (hash : List ℕ → Digest) (p : Params) (first : Digest) where
     walk-is m e more h = ap (λ n. many n number (λ values. withLeaf m e values)) h
 
     pub siblings-more : (m : ℕ) (e : Expected) (count : ℕ) (node : Digest) (position : ℕ)
-        → toSiblings m e (suc count) node position ≡ need 32 (λ x. toSiblings m e count (join hash (position % 2) node x) (position / 2))
+        → toSiblings m e (suc count) node position ≡ need 32 (λ x. toSiblings m e count (parent hash (position % 2) node x) (position / 2))
     unfolding many climb _>>=_ bytes pure
     siblings-more m e count node position = refl
 
@@ -218,7 +218,7 @@ module _ (hash : List ℕ → Digest) (first : Digest) where
         → Waiting p c w transcript t Value 4 (numbered (withValue hash p first x (w .index) (wanted w) values more))
     sibling : (x : Walking hash p first (c .query) (c .layer) transcript t) (more : ℕ) → c .height + suc more ≡ height p (c .layer)
         → Waiting p c w transcript t Sibling 32
-        (λ digest. toSiblings hash p first x (w .index) (wanted w) more (join hash (w .position % 2) (w .node) digest) (w .position / 2))
+        (λ digest. toSiblings hash p first x (w .index) (wanted w) more (parent hash (w .position % 2) (w .node) digest) (w .position / 2))
 
   abbrev pub At : Core → Tables → Stage → ℕ → (List ℕ → Process) → Type 0
   At c t = Waiting (c .params) (c .cursor) (c .walk) (c .transcript) t

@@ -15,14 +15,14 @@ use Rattle.message.proofs.Bytes.{joined-length}
 use Rattle.params.specs.declared.Params.{Params}
 use Rattle.params.specs.Parameters.{headerSize, finalCount}
 use Rattle.params.proofs.ParameterLaws.{valid-test, if-valid, final-small}
-use Rattle.transcript.specs.Transcript.{absorb, challenge, finish, absorbed}
+use Rattle.transcript.specs.Transcript.{absorb, challenge, absorbFinal, absorbed}
 use Rattle.fri.specs.Process.{Process, bytes, ensure, many, pure, _>>=_, _>>_}
 use Rattle.fri.specs.Judge.{number}
 use Rattle.reader_model.specs.declared.Stage.the-variants.{RootCount, Root, Coefficient}
 use Rattle.reader_model.specs.declared.Core.{Core}
 use Rattle.reader_model.specs.declared.Tables.{Tables}
 use Rattle.reader_model.specs.State.{place, movedTo}
-use Rattle.reader_model.specs.Items.{refused, countOf, numberOf, finals, afterParameters, rootState, afterRoot, rootsAfter, challengesAfter, afterCoefficient, coefficientsAfter, afterItem}
+use Rattle.reader_model.specs.Items.{refused, countOf, itemNumber, finals, afterParameters, rootState, afterRoot, rootsAfter, challengesAfter, afterCoefficient, coefficientsAfter, afterItem}
 use Rattle.reader_model.proofs.Filled.{filled-set, filled-sets, filled-take, sized-snoc, joined-snoc, challenges-snoc, challenges-length, absorbed-snoc}
 use Rattle.reader_model.proofs.Rest.{counting, numbered, toSection2, toSection3, toSection4, withRoot, withCoefficient, withParameters, Read, Early, at-cursor, Sound, EarlyAt, root, coefficient-count, coefficient, query-count, After, goes, stops}
 
@@ -68,9 +68,9 @@ module _ {hash : List ℕ → Digest} {first : Digest} (c : Core) (t : Tables) w
       → After hash first (cond (eqb (countOf c) want) x (refused c count-differs)) t (place c) (counting want′ q (take 2 (c .item)))
   after-count want want′ q e a = tested c _ _ count-differs (λ _. q) refl (ap (eqb (countOf c)) e) (λ _. a)
 
-  pub after-number : {x : Core} (q : ℕ → Process) → (ltb (numberOf c) modulus ≡ true → After hash first x t (place c) (q (numberOf c)))
-      → After hash first (cond (ltb (numberOf c) modulus) x (refused c not-below-modulus)) t (place c) (numbered q (take 4 (c .item)))
-  after-number q f = tested c _ _ not-below-modulus (λ _. q (numberOf c)) refl refl f
+  pub after-number : {x : Core} (q : ℕ → Process) → (ltb (itemNumber c) modulus ≡ true → After hash first x t (place c) (q (itemNumber c)))
+      → After hash first (cond (ltb (itemNumber c) modulus) x (refused c not-below-modulus)) t (place c) (numbered q (take 4 (c .item)))
+  after-number q f = tested c _ _ not-below-modulus (λ _. q (itemNumber c)) refl refl f
 
   pub after-parameters : After hash first (movedTo c RootCount) t (place c) (toSection2 hash (c .params) first)
       → After hash first (afterParameters c) t (place c) (withParameters hash (c .params) first (take headerSize (c .item)))
@@ -122,13 +122,13 @@ module _ {hash : List ℕ → Digest} {first : Digest} (c : Core) (t : Tables) (
 
   -- The tables with one coefficient more.
   read-coefficient : (roots : List Digest) (final : List ℕ) → EarlyAt hash first c t roots final → length final < 64
-      → ltb (numberOf c) modulus ≡ true → Read hash (c .params) first (afterItem hash Coefficient c t .tables) roots (final ++ numberOf c ∷ [])
+      → ltb (itemNumber c) modulus ≡ true → Read hash (c .params) first (afterItem hash Coefficient c t .tables) roots (final ++ itemNumber c ∷ [])
   unfolding coefficientsAfter
   read-coefficient roots final e few low = record {
     sized = e .read .sized;
     roots-kept = e .read .roots-kept;
     challenges-kept = e .read .challenges-kept;
-    final-kept = rw low (filled-set (e .read .final-kept) (c .cursor .coefficient) (numberOf c) (e .coefficient-next) (omega arith));
+    final-kept = rw low (filled-set (e .read .final-kept) (c .cursor .coefficient) (itemNumber c) (e .coefficient-next) (omega arith));
   }
 
   -- A coefficient.
@@ -139,14 +139,14 @@ module _ {hash : List ℕ → Digest} {first : Digest} (c : Core) (t : Tables) (
   unfolding afterCoefficient many number _>>=_ _>>_ bytes pure
   after-coefficient roots final zero e full total =
       let few = final-small (c .params) (s .valid) in
-      let long : length (final ++ numberOf c ∷ []) ≡ finals c = rw length-append (omega (arith, finals-are c s)) in
+      let long : length (final ++ itemNumber c ∷ []) ≡ finals c = rw length-append (omega (arith, finals-are c s)) in
       after-number c (afterItem hash Coefficient c t .tables) (withCoefficient hash (c .params) first roots final zero) (λ low.
       let now = read-coefficient roots final e (omega arith) low in
       leaves-false _ _ (le-ltb (c .cursor .coefficient + 1) (finals c) (omega (arith, finals-are c s, e .coefficient-next)))
       (goes (at-cursor s (omega arith) (omega arith) (omega arith) (omega arith) (omega arith))
-      (query-count {roots = roots} {final = final ++ numberOf c ∷ []} (record {
+      (query-count {roots = roots} {final = final ++ itemNumber c ∷ []} (record {
         read = now;
-        transcript-is = ap₂ (finish hash) (e .transcript-is) (filled-take (now .final-kept) (finals c) long);
+        transcript-is = ap₂ (absorbFinal hash) (e .transcript-is) (filled-take (now .final-kept) (finals c) long);
         all-roots = full;
         all-final = long ∙ finals-are c s;
       }))
@@ -157,11 +157,11 @@ module _ {hash : List ℕ → Digest} {first : Digest} (c : Core) (t : Tables) (
       leaves-true _ _ (lt-ltb (c .cursor .coefficient + 1) (finals c) (omega (arith, finals-are c s, e .coefficient-next)))
       (leaves-as
       (goes (at-cursor s (omega arith) (omega arith) (omega arith) (omega arith) (omega arith))
-      (coefficient {roots = roots} {final = final ++ numberOf c ∷ []} more (record {
+      (coefficient {roots = roots} {final = final ++ itemNumber c ∷ []} more (record {
         read = read-coefficient roots final e (omega arith) low;
         coefficient-next = rw length-append (omega (arith, e .coefficient-next));
         transcript-is = e .transcript-is;
       })
       full (rw length-append (omega arith)))
       refl refl)
-      (ap (many (suc more) number) (fun-ext (λ rest. ap (toSection4 hash (c .params) first roots) (append-assoc final (numberOf c ∷ []) rest))))))
+      (ap (many (suc more) number) (fun-ext (λ rest. ap (toSection4 hash (c .params) first roots) (append-assoc final (itemNumber c ∷ []) rest))))))

@@ -16,7 +16,7 @@ use Rattle.transcript.specs.Transcript.{start}
 use Rattle.fri.specs.Judge.{judgement, verdict}
 use Rattle.fri.proofs.Width.{sections-width}
 use Rattle.fri.proofs.Exactly.{accepted-exactly}
-use Rattle.calls.specs.Calls.{Call, piece, end, hasEnd, endsOnce, joined, stateAfter, leaves, answers, lastGiven, byByte, Reader as Calls}
+use Rattle.calls.specs.Calls.{Call, piece, end, hasEnd, endsOnce, joined, stateAfter, stateLeft, answers, lastGiven, byByte, Reader as Calls}
 use Rattle.calls.proofs.Follows.{Shut, state-left, shut-by-byte, refused-opening, refused-leaves}
 use Rattle.calls.proofs.Denotes.{follows, denotes-demand3, denotes-states, denotes-prefix, denotes-size, piece-judged, end-judged, ends-judged}
 use Rattle.reader_model.specs.declared.Reader.{Reader}
@@ -89,13 +89,13 @@ module _ (hash : List ℕ → Digest) (a : Terms) where
     reached (end ∷ cs) r h e = absurd (false≢true (sym e))
 
     -- What an end call leaves, and that every state is within the bounds.
-    closing : (cs : List Call) → hasEnd cs ≡ true → leaves (reader hash a) cs ≡ closedState
+    closing : (cs : List Call) → hasEnd cs ≡ true → stateLeft (reader hash a) cs ≡ closedState
     unfolding opened pieced fed ended judgement
     closing cs e =
         let f = follows (denotes hash first (a .params) (admitted-valid (a .params) v)) in
         rw (admits-true (a .params) v) ((rw e at (state-left (table hash a) (from beginning) f cs)) ∙ sym (f .end-next []))
 
-    bounded : (cs : List Call) (b : Bool) → hasEnd cs ≡ b → sane (leaves (reader hash a) cs .core) ≡ true
+    bounded : (cs : List Call) (b : Bool) → hasEnd cs ≡ b → sane (stateLeft (reader hash a) cs .core) ≡ true
     unfolding opened pieced fed ended sane
     bounded cs true e = ap (λ (r : Reader). sane (r .core)) (closing cs e)
     bounded cs false e =

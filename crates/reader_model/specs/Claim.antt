@@ -16,7 +16,7 @@ use Rattle.fri.specs.Process.{run}
 use Rattle.fri.specs.Size.{knownLength}
 use Rattle.fri.specs.Judge.{judgement, pieceAnswer, endAnswer, verdict}
 use Rattle.fri.specs.Accepted.{Accepted}
-use Rattle.calls.specs.Calls.{Call, piece, end, hasEnd, endsOnce, joined, leaves, given, nth, lastGiven, Refuses, Reader as Calls}
+use Rattle.calls.specs.Calls.{Call, piece, end, hasEnd, endsOnce, joined, stateLeft, given, nth, lastGiven, Refuses, Reader as Calls}
 use Rattle.calls.specs.Plain.{Table, plain}
 use Rattle.calls.specs.Demand3.{Demand3, PrefixRule, StateRule, SizeRule, toPiece}
 use Rattle.calls.specs.Judged.{tableOf}
@@ -64,10 +64,10 @@ pub record Opened (hash : List ℕ → Digest) (a : Terms) (cs : List Call) : Ty
   pub prefixes : PrefixRule (reader hash a)
   -- what is left behind: by a refusal, the small part of a stopped reader with that answer; by an end call, the one closed state
   pub refused-core : (xs : List ℕ) → hasEnd cs ≡ false → Refuses (toPiece (reader hash a) cs xs)
-      → reader hash a .pieceNext (leaves (reader hash a) cs) xs .core ≡ stopped (toPiece (reader hash a) cs xs)
-  pub closed-state : hasEnd cs ≡ true → leaves (reader hash a) cs ≡ closedState
+      → reader hash a .pieceNext (stateLeft (reader hash a) cs) xs .core ≡ stopped (toPiece (reader hash a) cs xs)
+  pub closed-state : hasEnd cs ≡ true → stateLeft (reader hash a) cs ≡ closedState
   -- every state that is left keeps the bounds that each item is tested for, so the test never stops a reader
-  pub within-bounds : sane (leaves (reader hash a) cs .core) ≡ true
+  pub within-bounds : sane (stateLeft (reader hash a) cs .core) ≡ true
 
 -- An opening that is refused: its number at 0, and from then on closed, as the plain reader that is closed from the start, in one
 -- fixed state.
@@ -75,7 +75,7 @@ pub record Refused (hash : List ℕ → Digest) (a : Terms) (cs : List Call) : T
   pub answer : opened hash a .answer ≡ answered (admissionOf a) 0
   pub plainly : given (reader hash a) cs ≡ given (plain (table hash a) true) cs
   pub closed-each : (i : ℕ) → i < length cs → nth (reader hash a) cs i ≡ answered closed 0
-  pub fixed : leaves (reader hash a) cs ≡ closedState
+  pub fixed : stateLeft (reader hash a) cs ≡ closedState
   -- the opening's answer is the verdict on any file
   pub verdicts : (file : List ℕ) → opened hash a .answer ≡ verdict hash a file
 

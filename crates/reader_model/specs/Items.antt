@@ -11,8 +11,8 @@ use Rattle.message.specs.Bytes.{num}
 use Rattle.message.specs.Message.{Digest}
 use Rattle.params.specs.Parameters.{headerSize, header, finalCount, ifValid, depth, valuesPerLeaf, height, leafCount, indexBits}
 use Rattle.domain.specs.Domain.{point}
-use Rattle.merkle.specs.Merkle.{leafDigest, join}
-use Rattle.transcript.specs.Transcript.{absorb, challenge, finish, drawn}
+use Rattle.merkle.specs.Merkle.{leafDigest, parent}
+use Rattle.transcript.specs.Transcript.{absorb, challenge, absorbFinal, draw}
 use Rattle.fold.specs.Poly.{eval}
 use Rattle.fold.specs.Fold.{expected, agrees}
 use Rattle.fri.specs.Judge.{sameBytes, valueAt}
@@ -43,8 +43,8 @@ refused c number = stopped (answered number (place c))
 abbrev pub countOf : Core → ℕ
 countOf c = num (take 2 (c .item))
 
-abbrev pub numberOf : Core → ℕ
-numberOf c = num (take 4 (c .item))
+abbrev pub itemNumber : Core → ℕ
+itemNumber c = num (take 4 (c .item))
 
 -- The number of final coefficients.
 abbrev pub finals : Core → ℕ
@@ -71,7 +71,7 @@ afterParameters c = cond (sameBytes (take headerSize (c .item)) (header (c .para
 
 -- The array of the leaf's values with this one, the values in such an array, and the walk with it.
 abbrev pub valuesWith : Core → List ℕ
-valuesWith c = set (c .walk .values) (c .cursor .value) (numberOf c)
+valuesWith c = set (c .walk .values) (c .cursor .value) (itemNumber c)
 
 abbrev pub leafOf : Core → List ℕ → List ℕ
 leafOf c values = take (valuesPerLeaf (c .params)) values
@@ -121,14 +121,14 @@ module _ (hash : List ℕ → Digest) where
 
   -- A final coefficient is kept; after the last one all are absorbed.
   unfoldable pub coefficientsAfter : Core → List ℕ → List ℕ
-  coefficientsAfter c coefficients = cond (ltb (numberOf c) modulus) (set coefficients (c .cursor .coefficient) (numberOf c)) coefficients
+  coefficientsAfter c coefficients = cond (ltb (itemNumber c) modulus) (set coefficients (c .cursor .coefficient) (itemNumber c)) coefficients
 
   unfoldable pub afterCoefficient : Core → List ℕ → Core
   afterCoefficient c coefficients =
-      cond (ltb (numberOf c) modulus)
+      cond (ltb (itemNumber c) modulus)
       (cond (ltb (c .cursor .coefficient + 1) (finals c))
       (movedTo (atCoefficient c (c .cursor .coefficient + 1)) Coefficient)
-      (movedTo (withTranscript (atCoefficient c 0) (finish hash (c .transcript) (take (finals c) (coefficientsAfter c coefficients)))) QueryCount))
+      (movedTo (withTranscript (atCoefficient c 0) (absorbFinal hash (c .transcript) (take (finals c) (coefficientsAfter c coefficients)))) QueryCount))
       (refused c not-below-modulus)
 
   -- The start of query i's walk.
@@ -137,7 +137,7 @@ module _ (hash : List ℕ → Digest) where
       withWalk
       (withCursor c (record { start = c .cursor .start; coefficient = c .cursor .coefficient; query = i; layer = 0; value = 0; height = 0 }))
       (record {
-        index = drawn hash (c .transcript) (indexBits (c .params)) i;
+        index = draw hash (c .transcript) (indexBits (c .params)) i;
         position = 0;
         values = c .walk .values;
         scale = 0;
@@ -170,7 +170,7 @@ module _ (hash : List ℕ → Digest) where
   -- A value is kept until the last one is there.
   unfoldable pub afterValue : Core → List ℕ → Core
   afterValue c challenges =
-      cond (ltb (numberOf c) modulus)
+      cond (ltb (itemNumber c) modulus)
       (cond (ltb (c .cursor .value + 1) (valuesPerLeaf (c .params)))
       (movedTo (atValue (withValues c (valuesWith c)) (c .cursor .value + 1)) Value)
       (afterLeaf c challenges (valuesWith c)))
@@ -186,7 +186,7 @@ module _ (hash : List ℕ → Digest) where
         values = w .values;
         scale = w .scale;
         folded = w .folded;
-        node = join hash (w .position % 2) (w .node) (c .item);
+        node = parent hash (w .position % 2) (w .node) (c .item);
       }
 
   -- A query has ended: the next one, or the end of the file.

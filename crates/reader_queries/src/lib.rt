@@ -3,7 +3,7 @@ ghost use mathlib.Core.Path.{_≡_};
 ghost use Prim.Native.Nat.{_+_, _*_, _<_, _%_, _/_};
 ghost use lib.ListN.{length, take, drop};
 ghost use Rattle.sha256.specs.Sha256.{sha256};
-ghost use Rattle.merkle.specs.Merkle.{join};
+ghost use Rattle.merkle.specs.Merkle.{parent};
 ghost use Rattle.params.specs.Parameters.{leafCount};
 ghost use Rattle.fri.specs.Judge.{sameBytes, valueAt};
 ghost use Rattle.reader_model.specs.Items.{leafOf, linked, atLeaf, afterLeaf, afterValue, climbed, finished, nextQuery, nextLayer, afterPath, afterSibling};
@@ -117,7 +117,7 @@ pub fn after_value(c: Core, challenges: &[u32; CHALLENGES]) -> Core
 
 // The node above, of the walk's node and the sibling. Each of the two orders is a call of its own: the choice moves no bytes.
 fn node_above(position: u32, node: [u8; 32], sibling: [u8; 32]) -> [u8; 32]
-    ensures { λ r. ⌜ r ≡ join sha256 (position % 2) node sibling ⌝ }
+    ensures { λ r. ⌜ r ≡ parent sha256 (position % 2) node sibling ⌝ }
 {
     if position % 2 == 0 {
         merkle::node(node, sibling)

@@ -11,7 +11,7 @@ use Rattle.params.specs.Parameters.{Valid, headerSize, header, finalCount, root
 use Rattle.field.specs.Modular.{p as modulus}
 use Rattle.message.specs.Bytes.{num, part}
 use Rattle.message.specs.Message.{Digest}
-use Rattle.transcript.specs.Transcript.{start, absorbed, finish}
+use Rattle.transcript.specs.Transcript.{start, absorbed, absorbFinal}
 use Rattle.fri.specs.Process.{Process, run, left, outcome, bytes, many, pure, done, ended, _>>=_, _>>_}
 use Rattle.fri.specs.Encoding.{Proof}
 use Rattle.fri.specs.Judge.{sameBytes, number, queries, sections, judgement}
@@ -46,7 +46,7 @@ module _ (hash : List ℕ → Digest) (p : Params) (context file : List ℕ) whe
 
   -- The queries.
   abbrev drawing : Digest
-  drawing = finish hash (absorbed hash (start hash (header p) context) (proof .roots)) (proof .final)
+  drawing = absorbFinal hash (absorbed hash (start hash (header p) context) (proof .roots)) (proof .final)
 
   queries-step : Valid p → (k : Unit {0} → Process)
       → Through file (Some (QueryFaults hash p context file) (p .q)) (queriesOffset p) (fileLength p)

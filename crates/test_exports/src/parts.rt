@@ -84,7 +84,7 @@ pub extern "C" fn test_parent(
     sibling: &[u8; 32],
     out: &mut [u8; 32],
 )
-    ensures { λ _. ⌜ now (out .exit) ≡ merkle.join sha256 (index % 2) (now (child .entry)) (now (sibling .entry)) ⌝ }
+    ensures { λ _. ⌜ now (out .exit) ≡ merkle.parent sha256 (index % 2) (now (child .entry)) (now (sibling .entry)) ⌝ }
 {
     let c = *child;
     let s = *sibling;
@@ -139,7 +139,7 @@ pub extern "C" fn test_absorb_final(
     count: usize,
     out: &mut [u8; 32],
 )
-    ensures { λ _. ⌜ now (out .exit) ≡ transcript.finish sha256 (now (state .entry)) (take count (now (coefficients .entry))) ⌝ }
+    ensures { λ _. ⌜ now (out .exit) ≡ transcript.absorbFinal sha256 (now (state .entry)) (take count (now (coefficients .entry))) ⌝ }
 {
     let s = *state;
     let cs = *coefficients;
@@ -151,7 +151,7 @@ pub extern "C" fn test_absorb_final(
 
 #[no_mangle]
 pub extern "C" fn test_draw(state: &[u8; 32], p: Params, query: u8) -> u32
-    ensures { λ r. ⌜ r ≡ transcript.drawn sha256 (now (state .entry)) (parameters.indexBits p) query ⌝ }
+    ensures { λ r. ⌜ r ≡ transcript.draw sha256 (now (state .entry)) (parameters.indexBits p) query ⌝ }
 {
     let s = *state;
     let t = Transcript { state: s };

@@ -14,8 +14,8 @@ use Rattle.message.specs.Bytes.{le, num, joined, words}
 use Rattle.params.specs.Parameters.{valid, finalCount}
 use Rattle.params.specs.Admission.{termsOf, admission}
 use Rattle.domain.specs.Domain.{point}
-use Rattle.merkle.specs.Merkle.{leafDigest, node, join, climb}
-use Rattle.transcript.specs.Transcript.{start, challenge, finish, drawn, absorbed}
+use Rattle.merkle.specs.Merkle.{leafDigest, node, parent, climb}
+use Rattle.transcript.specs.Transcript.{start, challenge, absorbFinal, draw, absorbed}
 use Rattle.transcript.specs.Transcript as transcript
 use Rattle.fold.specs.Poly.{eval}
 use Rattle.fold.specs.Fold.{agrees}
@@ -33,7 +33,7 @@ unfolding point
 point-0 = ap (mulMod (powMod 5 1)) (powMod-zero (subgroupGenerator 2)) ∙ times-one
 
 pub flipped : verdict sha256 (termsOf parameters context) (file 45) ≡ answered path-misses-root 88
-unfolding context file valid admission finalCount num joined words le leafDigest node join climb start transcript.absorb challenge finish drawn absorbed agrees left outcome run pure _>>=_ _>>_ bytes ensure many sameBytes count number valueAt walk queries sections judgement endAnswer verdict addMod subMod mulMod build shr rotr ch maj bigSigma0 bigSigma1 smallSigma0 smallSigma1 roundConstants initialHash zeros lengthByte pad word block nextWord extend schedule sum1 sum2 round rounds addWords compress absorb bytesOf sha256
+unfolding context file valid admission finalCount num joined words le leafDigest node parent climb start transcript.absorb challenge absorbFinal draw absorbed agrees left outcome run pure _>>=_ _>>_ bytes ensure many sameBytes count number valueAt walk queries sections judgement endAnswer verdict addMod subMod mulMod build shr rotr ch maj bigSigma0 bigSigma1 smallSigma0 smallSigma1 roundConstants initialHash zeros lengthByte pad word block nextWord extend schedule sum1 sum2 round rounds addWords compress absorb bytesOf sha256
 flipped = refl
 
 -- The last test of the file, with the point x of leaf 0 in layer 0 and the final polynomial's value v: 2·x·v = x·(a+c) + β·(a−c).
@@ -43,7 +43,7 @@ last-test x v = agrees (mulMod 2 x) (addMod (mulMod x (addMod 581943340 21479030
 -- Every byte is read, and this test is all that is left.
 read : left (judgement sha256 parameters context) (file 44) 0
     ≡ left (ensure (last-test (point 2 0 0) (eval (2956924926 ∷ []) (point 2 1 0))) misses-final-polynomial (λ _. done)) [] 88
-unfolding context file valid admission finalCount num joined words le leafDigest node join climb start transcript.absorb challenge finish drawn absorbed agrees left outcome run pure _>>=_ _>>_ bytes ensure many sameBytes count number valueAt walk queries sections judgement endAnswer verdict addMod subMod mulMod build shr rotr ch maj bigSigma0 bigSigma1 smallSigma0 smallSigma1 roundConstants initialHash zeros lengthByte pad word block nextWord extend schedule sum1 sum2 round rounds addWords compress absorb bytesOf sha256
+unfolding context file valid admission finalCount num joined words le leafDigest node parent climb start transcript.absorb challenge absorbFinal draw absorbed agrees left outcome run pure _>>=_ _>>_ bytes ensure many sameBytes count number valueAt walk queries sections judgement endAnswer verdict addMod subMod mulMod build shr rotr ch maj bigSigma0 bigSigma1 smallSigma0 smallSigma1 roundConstants initialHash zeros lengthByte pad word block nextWord extend schedule sum1 sum2 round rounds addWords compress absorb bytesOf sha256
 read = refl
 
 constant : (y : ℕ) → eval (2956924926 ∷ []) y ≡ 2956924926

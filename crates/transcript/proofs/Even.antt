@@ -14,7 +14,7 @@ use Rattle.field.specs.Modular.{p}
 use Rattle.message.specs.Bytes.{le, num}
 use Rattle.message.specs.Message.{Digest}
 use Rattle.message.proofs.Bytes.{le-length, num-le-below}
-use Rattle.transcript.specs.Transcript.{challenge, drawn}
+use Rattle.transcript.specs.Transcript.{challenge, draw}
 use Rattle.transcript.specs.Even.{howMany, drawsChallenge, drawsLeaf, EvenChallenges, EvenLeaves}
 
 -- Tests that agree pick equally many.
@@ -57,7 +57,7 @@ unfolding drawsChallenge challenge
 challenged s rest c v h = ap (λ u. eqb (num u % p) c) (take-at (le 8 v) rest 8 (le-length 8 v)) ∙ ap (λ u. eqb (u % p) c) (num-le-below 8 v h)
 
 opened : (s rest : Digest) (bits i m v : ℕ) → v < 2 ^ 32 → drawsLeaf s rest bits i m v ≡ eqb (v % 2 ^ bits) m
-unfolding drawsLeaf drawn
+unfolding drawsLeaf draw
 opened s rest bits i m v h = ap (λ u. eqb (num u % 2 ^ bits) m) (take-at (le 4 v) rest 4 (le-length 4 v)) ∙ ap (λ u. eqb (u % 2 ^ bits) m) (num-le-below 4 v h)
 
 pub even-challenges : EvenChallenges

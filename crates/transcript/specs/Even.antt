@@ -7,7 +7,7 @@ use lib.Dec.{eqb, ltb}
 use Rattle.field.specs.Modular.{p}
 use Rattle.message.specs.Bytes.{le}
 use Rattle.message.specs.Message.{Digest}
-use Rattle.transcript.specs.Transcript.{challenge, drawn}
+use Rattle.transcript.specs.Transcript.{challenge, draw}
 
 -- How many of the numbers below n a test picks.
 unfoldable pub howMany : (ℕ → Bool) → ℕ → ℕ
@@ -20,7 +20,7 @@ drawsChallenge s rest c v = eqb (challenge (λ _. le 8 v ++ rest) s) c
 
 -- Whether a digest that begins with the 4 bytes of v makes m the leaf of query i.
 unfoldable pub drawsLeaf : Digest → Digest → ℕ → ℕ → ℕ → ℕ → Bool
-drawsLeaf s rest bits i m v = eqb (drawn (λ _. le 4 v ++ rest) s bits i) m
+drawsLeaf s rest bits i m v = eqb (draw (λ _. le 4 v ++ rest) s bits i) m
 
 -- Of the 2^64 values of 8 bytes, 2^64 / p draw each number below p, and one more draws a number below 2^64 % p.
 abbrev pub EvenChallenges : Type 0

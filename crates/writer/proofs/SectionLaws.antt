@@ -15,11 +15,11 @@ use Rattle.message.specs.Bytes.{le, words}
 use Rattle.message.specs.Message.{Digest}
 use Rattle.message.proofs.Bytes.{le-length}
 use Rattle.message.proofs.MessageLaws.{words-length}
-use Rattle.transcript.specs.Transcript.{start, finish}
+use Rattle.transcript.specs.Transcript.{start, absorbFinal}
 use Rattle.buffer.specs.Buffer.{put}
 use Rattle.buffer.proofs.BufferLaws.{put-fits}
 use Rattle.built.specs.Built.{builtFile}
-use Rattle.writer_model.specs.Buffers.{Buffers, buffers, headIn, queriesIn, allLayered, begun, withFinal, ended}
+use Rattle.writer_model.specs.Buffers.{Buffers, buffers, headIn, queriesIn, allLayered, begun, withFinal, withOpenings}
 use Rattle.writer_model.proofs.Layers.{represents}
 use Rattle.writer_model.proofs.File.{file-built}
 
@@ -45,8 +45,8 @@ head-left {b} {d₁} {d₂} {d₃} p f h e e₁ e₂ e₃ =
 
 pub finish-left : {d₁ d₂ : List ℕ} {s₁ : Digest} {count at : ℕ} (p : Params) (s : Digest) (numbers f a : List ℕ) → Valid p → queriesOffset p ≤ length f
     → count ≡ ifValid p (finalCount p) → at ≡ finalCountOffset p → d₁ ≡ put f at (le 2 count) → finalCount p ≤ length numbers → d₂ ≡ put d₁ (at + 2) (words (take count numbers))
-    → take count a ≡ take count numbers → s₁ ≡ finish sha256 s (take count a)
-    → (s₁ ≡ finish sha256 s (take (finalCount p) numbers))
+    → take count a ≡ take count numbers → s₁ ≡ absorbFinal sha256 s (take count a)
+    → (s₁ ≡ absorbFinal sha256 s (take (finalCount p) numbers))
     × (d₂ ≡ sets (sets f (finalCountOffset p) (le 2 (finalCount p))) (coefficientOffset p 0) (words (take (finalCount p) numbers)))
 unfolding queriesOffset
 finish-left {d₁} {d₂} {s₁} {count} {at} p s numbers f a v h e e₀ e₁ enough e₂ e₃ e₄ =
@@ -55,7 +55,7 @@ finish-left {d₁} {d₂} {s₁} {count} {at} p s numbers f a v h e e₀ e₁ en
     let there : at + 2 ≡ coefficientOffset p 0 = omega arith in
     let long : length (words (take count numbers)) ≡ 4 * count = words-length (take count numbers) ∙ ap (λ k. 4 * k) (length-take-le count numbers (omega arith)) in
     let same : length d₁ ≡ length f = ap length first ∙ length-sets f (finalCountOffset p) (le 2 (finalCount p)) in (
-      e₄ ∙ ap (finish sha256 s) (e₃ ∙ ap (λ c. take c numbers) full),
+      e₄ ∙ ap (absorbFinal sha256 s) (e₃ ∙ ap (λ c. take c numbers) full),
       e₂ ∙ put-fits d₁ (at + 2) (words (take count numbers)) (omega arith) ∙ ap₂ (λ d i. sets d i (words (take count numbers))) first there ∙ ap (λ c. sets (sets f (finalCountOffset p) (le 2 (finalCount p))) (coefficientOffset p 0) (words (take c numbers))) full,
     )
 
@@ -76,11 +76,11 @@ pub file-left : {n₁ n₂ b₁ f₁ f₂ f₃ f₄ : List ℕ} {s₀ s₁ s₂ 
     → f₁ ≡ headIn p f → s₀ ≡ start sha256 (header p) context
     → s₁ ≡ allLayered p sha256 (p .k) (buffers n₁ bytes f₁ s₀) .state → n₂ ≡ allLayered p sha256 (p .k) (buffers n₁ bytes f₁ s₀) .numbers
     → b₁ ≡ allLayered p sha256 (p .k) (buffers n₁ bytes f₁ s₀) .bytes → f₂ ≡ allLayered p sha256 (p .k) (buffers n₁ bytes f₁ s₀) .file
-    → s₂ ≡ finish sha256 s₁ (take (finalCount p) n₂)
+    → s₂ ≡ absorbFinal sha256 s₁ (take (finalCount p) n₂)
     → f₃ ≡ sets (sets f₂ (finalCountOffset p) (le 2 (finalCount p))) (coefficientOffset p 0) (words (take (finalCount p) n₂))
     → f₄ ≡ sets (sets f₃ (queryCountOffset p) (le 2 (p .q))) (queriesOffset p) (queriesIn p sha256 s₂ n₂ b₁)
     → f₄ ≡ builtFile sha256 p context c
-unfolding begun ended withFinal
+unfolding begun withOpenings withFinal
 file-left {n₁} {n₂} {b₁} {f₁} {f₂} {f₃} {f₄} {s₀} {s₁} {s₂} p context c numbers bytes f v full long room size e₁ e₂ e₃ e₄ e₅ e₆ e₇ e₈ e₉ e₁₀ =
     done ∙ file-built sha256 length-sha256 sha256-byte p context c f v full size w (represents sha256 length-sha256 p context c numbers bytes f v full long room (p .k) (omega arith))
   where
@@ -96,5 +96,5 @@ file-left {n₁} {n₂} {b₁} {f₁} {f₂} {f₃} {f₄} {s₀} {s₁} {s₂} 
     on : {A : Type 0} {x : A} (part : Buffers → A) → x ≡ part (allLayered p sha256 (p .k) (buffers n₁ bytes f₁ s₀)) → x ≡ part w
     on part e = e ∙ ap (λ u. part (allLayered p sha256 (p .k) u)) begin
 
-    done : f₄ ≡ ended p sha256 w
+    done : f₄ ≡ withOpenings p sha256 w
     done = rw (e₁₀, e₉, e₈, on (λ u. u .file) e₇, on (λ u. u .state) e₄, on (λ u. u .numbers) e₅, on (λ u. u .bytes) e₆)

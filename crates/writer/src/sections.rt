@@ -36,7 +36,7 @@ fn head(p: Params, file: &mut [u8])
 // Section 3: the final coefficients, and the transcript that has absorbed them.
 fn finish(p: Params, s: Transcript, numbers: &[u32], file: &mut [u8]) -> Transcript
     requires { ⌜ Valid p × ((finalCount p ≤ length (now numbers)) × (queriesOffset p ≤ length (now file))) ⌝ }
-    ensures { λ r. ⌜ r .state ≡ transcript.finish sha256 (s .state) (take (finalCount p) (now (numbers .entry))) ⌝ }
+    ensures { λ r. ⌜ r .state ≡ transcript.absorbFinal sha256 (s .state) (take (finalCount p) (now (numbers .entry))) ⌝ }
     ensures { λ _. ⌜ now (file .exit) ≡ sets (sets (now (file .entry)) (finalCountOffset p) (le 2 (finalCount p))) (coefficientOffset p 0) (words (take (finalCount p) (now (numbers .entry)))) ⌝ }
 {
     let count = params::final_count(p);
@@ -70,7 +70,13 @@ pub fn file(
 {
     buffer::put_numbers(numbers, coefficients);
     head(p, file);
-    let committed = writer_layers::layers::layers(p, Transcript::start(p, context), numbers, bytes, file);
+    let committed = writer_layers::layers::layers(
+        p,
+        Transcript::start(p, context),
+        numbers,
+        bytes,
+        file,
+    );
     let finished = finish(p, committed, &numbers[..], file);
     openings(p, finished, &numbers[..], &bytes[..], file);
 }

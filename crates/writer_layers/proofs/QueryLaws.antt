@@ -21,7 +21,7 @@ use Rattle.message.proofs.Bytes.{le-length, joined-snoc}
 use Rattle.buffer.proofs.BufferLaws.{sets-append}
 use Rattle.message.proofs.MessageLaws.{words-length, words-append, words-one}
 use Rattle.domain.specs.Domain.{half}
-use Rattle.transcript.specs.Transcript.{drawn}
+use Rattle.transcript.specs.Transcript.{draw}
 use Rattle.message.specs.Lists.{tabulate}
 use Rattle.message.proofs.Tabulate.{tabulate-length, tabulate-snoc}
 use Rattle.buffer.specs.Buffer.{put}
@@ -114,7 +114,7 @@ pub openings : Params → ℕ → List ℕ → List ℕ → ℕ → List ℕ
 openings p m numbers bytes j = joined (tabulate j (λ l. openingIn p l (m % leafCount p l) numbers bytes))
 
 pub opened : Params → Digest → List ℕ → List ℕ → ℕ → List ℕ
-opened p s numbers bytes i = joined (tabulate i (λ l. queryIn p (drawn sha256 s (indexBits p) l) numbers bytes))
+opened p s numbers bytes i = joined (tabulate i (λ l. queryIn p (draw sha256 s (indexBits p) l) numbers bytes))
 
 -- None yet; one opening more, and one query more.
 pub openings-none : (p : Params) (m : ℕ) (numbers bytes file : List ℕ) (at : ℕ) → file ≡ sets file at (openings p m numbers bytes 0)
@@ -130,7 +130,7 @@ module _ (p : Params) (numbers bytes : List ℕ) where
   unfolding openings
   openings-snoc m j = ap joined (tabulate-snoc j _) ∙ joined-snoc _ _
 
-  opened-snoc : (s : Digest) (i : ℕ) → opened p s numbers bytes (suc i) ≡ opened p s numbers bytes i ++ queryIn p (drawn sha256 s (indexBits p) i) numbers bytes
+  opened-snoc : (s : Digest) (i : ℕ) → opened p s numbers bytes (suc i) ≡ opened p s numbers bytes i ++ queryIn p (draw sha256 s (indexBits p) i) numbers bytes
   unfolding opened
   opened-snoc s i = ap joined (tabulate-snoc i _) ∙ joined-snoc _ _
 
@@ -179,10 +179,10 @@ module _ (p : Params) (v : Valid p) (numbers bytes : List ℕ) (room : 64 * 2 ^ 
     opened-size (suc i) =
         ap length (opened-snoc p numbers bytes s i)
         ∙ length-append (opened p s numbers bytes i) _
-        ∙ ap₂ (λ a b. a + b) (opened-size i) (query-size (drawn sha256 s (indexBits p) i))
+        ∙ ap₂ (λ a b. a + b) (opened-size i) (query-size (draw sha256 s (indexBits p) i))
         ∙ sym (suc-mul i (queryLength p 0 (p .k)))
 
-    pub opened-more : {d e : List ℕ} (file : List ℕ) (at to i m : ℕ) → to ≡ at + i * queryLength p 0 (p .k) → m ≡ drawn sha256 s (indexBits p) i
+    pub opened-more : {d e : List ℕ} (file : List ℕ) (at to i m : ℕ) → to ≡ at + i * queryLength p 0 (p .k) → m ≡ draw sha256 s (indexBits p) i
         → d ≡ sets file at (opened p s numbers bytes i) → e ≡ sets d to (queryIn p m numbers bytes) → e ≡ sets file at (opened p s numbers bytes (i + 1))
     opened-more file at to i m t q a b =
         b

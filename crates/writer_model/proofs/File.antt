@@ -19,7 +19,7 @@ use Rattle.fri.proofs.Exactly.{accepted-length}
 use Rattle.built.specs.Built.{build, builtFile}
 use Rattle.built.proofs.Built.{built-holds}
 use Rattle.built.proofs.BuiltLayout.{built-layout}
-use Rattle.writer_model.specs.Buffers.{Buffers, headIn, withFinal, ended}
+use Rattle.writer_model.specs.Buffers.{Buffers, headIn, withFinal, withOpenings}
 use Rattle.writer_model.proofs.Represents.{Represents}
 use Rattle.writer_model.proofs.Opened.{final-built, queries-built}
 
@@ -64,8 +64,8 @@ module _
   -- The file from the start on: all parts, and no byte more.
   pub file-built : (file : List ℕ) → Valid p → length f ≡ 2 ^ (p .n - p .b) → length file ≡ fileLength p → (w : Buffers)
       → Represents hash p context f (headIn p file) (p .k) w
-      → ended p hash w ≡ builtFile hash p context f
-  unfolding ended withFinal build builtFile encode
+      → withOpenings p hash w ≡ builtFile hash p context f
+  unfolding withOpenings withFinal build builtFile encode
   file-built file v full long w represents =
       let layout = built-layout hash size below p context f v (omega arith) in
       rw (queries-built hash size p context f _ v w represents, final-built hash size p context f _ v w represents, represents .roots-in)

@@ -27,7 +27,7 @@ use Rattle.polynomial.specs.Polynomial.{layerSize, values}
 use Rattle.tree.specs.Tree.{valuesOf, leafRow, rows, treeSize}
 use Rattle.tree.proofs.TreeLaws.{blocks-more}
 use Rattle.tree.proofs.Size.{rows-length}
-use Rattle.built.specs.Built.{Layer, padded, leafValues, leafOf, leaves, commit, nextLayer, layerAt, builtRoot}
+use Rattle.built.specs.Built.{Layer, padded, leafValues, leafOf, leaves, commit, layerAfter, layerAt, builtRoot}
 use Rattle.built.proofs.Layers.{leaves-length, layer-length}
 use Rattle.writer_model.specs.Buffers.{Buffers, polyIn, valuesIn, withValues, withFold, treeStart, treeIn, rootIn, committed, layered, allLayered, begun}
 use Rattle.writer_model.proofs.Represents.{Represents}
@@ -211,7 +211,7 @@ module _ (hash : List ℕ → Digest) (size : (xs : List ℕ) → length (hash x
   pub layer-represents : Valid p → length f ≤ 2 ^ (p .n - p .b) → (j : ℕ) (w : Buffers) → j < p .k
       → 2 * 2 ^ p .n ≤ length (w .numbers) → 64 * 2 ^ p .n ≤ length (w .bytes)
       → Represents hash p context f file j w → Represents hash p context f file (suc j) (layered p hash j w)
-  unfolding layered committed layerAt nextLayer builtRoot
+  unfolding layered committed layerAt layerAfter builtRoot
   layer-represents v short j w h long room s =
       record {
         poly = next-poly p v j h g (w .numbers) (s .poly) long β full ∙ ap (λ t. fold (challenge hash t) g) state;

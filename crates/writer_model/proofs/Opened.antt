@@ -10,7 +10,7 @@ use Rattle.message.specs.Bytes.{joined, part, words}
 use Rattle.message.specs.Message.{Digest}
 use Rattle.params.proofs.LeafLaws.{leaf-lt}
 use Rattle.domain.specs.Domain.{point}
-use Rattle.transcript.specs.Transcript.{finish, drawn}
+use Rattle.transcript.specs.Transcript.{absorbFinal, draw}
 use Rattle.fold.specs.Poly.{eval}
 use Rattle.fri.specs.Encoding.{openingBytes, queryBytes}
 use Rattle.message.specs.Lists.{tabulate}
@@ -61,9 +61,9 @@ module _ (hash : List ℕ → Digest) (size : (xs : List ℕ) → length (hash x
   unfolding polyIn finalCount
   final-built = represents .poly
 
-  leaf-built : (i : ℕ) → drawn hash (finish hash (w .state) (finalIn p hash w)) (indexBits p) i ≡ builtLeaf hash p context f i
+  leaf-built : (i : ℕ) → draw hash (absorbFinal hash (w .state) (finalIn p hash w)) (indexBits p) i ≡ builtLeaf hash p context f i
   unfolding builtLeaf
-  leaf-built i = ap₂ (λ s g. drawn hash (finish hash s g) (indexBits p) i) (represents .state) final-built
+  leaf-built i = ap₂ (λ s g. draw hash (absorbFinal hash s g) (indexBits p) i) (represents .state) final-built
 
   -- The openings of the query at leaf m, and those of all queries.
   query-built : (m : ℕ) → queryIn p m (w .numbers) (w .bytes) ≡ queryBytes (tabulate (p .k) (λ j. openingOf hash p context f j (m % leafCount p j)))
@@ -72,7 +72,7 @@ module _ (hash : List ℕ → Digest) (size : (xs : List ℕ) → length (hash x
       ap joined
       (tabulate-same (p .k) _ _ (λ j h. opening-built j (m % leafCount p j) h (leaf-lt p j m)) ∙ sym (map-tabulate openingBytes (p .k) _))
 
-  pub queries-built : queriesIn p hash (finish hash (w .state) (finalIn p hash w)) (w .numbers) (w .bytes)
+  pub queries-built : queriesIn p hash (absorbFinal hash (w .state) (finalIn p hash w)) (w .numbers) (w .bytes)
       ≡ joined (map queryBytes (build hash p context f .queries))
   unfolding queriesIn build
   queries-built =

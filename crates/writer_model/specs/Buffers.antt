@@ -9,7 +9,7 @@ use Rattle.params.specs.Parameters.{headerSize, header, depth, valuesPerLeaf, h
 use Rattle.message.specs.Bytes.{le, joined, part, words}
 use Rattle.message.specs.Message.{Digest}
 use Rattle.merkle.specs.Merkle.{rootOf}
-use Rattle.transcript.specs.Transcript.{start, absorb, challenge, finish, drawn}
+use Rattle.transcript.specs.Transcript.{start, absorb, challenge, absorbFinal, draw}
 use Rattle.fold.specs.Poly.{fold}
 use Rattle.message.specs.Lists.{tabulate}
 use Rattle.polynomial.specs.Polynomial.{layerSize, values}
@@ -68,7 +68,7 @@ module _ (p : Params) where
     rootIn j numbers = rootOf hash (height p j) (leafRow hash j (valuesPerLeaf p) (height p j) (valuesIn j numbers))
 
     unfoldable pub queriesIn : Digest → List ℕ → List ℕ → List ℕ
-    queriesIn s numbers bytes = joined (tabulate (p .q) (λ i. queryIn (drawn hash s (indexBits p) i) numbers bytes))
+    queriesIn s numbers bytes = joined (tabulate (p .q) (λ i. queryIn (draw hash s (indexBits p) i) numbers bytes))
 
     -- One layer done: its values, its tree, its root in the file and in the transcript, and the fold.
     unfoldable pub committed : ℕ → Buffers → Buffers
@@ -111,7 +111,7 @@ module _ (p : Params) where
     unfoldable pub withFinal : Buffers → List ℕ
     withFinal w = sets (sets (w .file) (finalCountOffset p) (le 2 (finalCount p))) (coefficientOffset p 0) (words (finalIn w))
 
-    unfoldable pub ended : Buffers → List ℕ
-    ended w =
+    unfoldable pub withOpenings : Buffers → List ℕ
+    withOpenings w =
         sets (sets (withFinal w) (queryCountOffset p) (le 2 (p .q))) (queriesOffset p)
-        (queriesIn (finish hash (w .state) (finalIn w)) (w .numbers) (w .bytes))
+        (queriesIn (absorbFinal hash (w .state) (finalIn w)) (w .numbers) (w .bytes))

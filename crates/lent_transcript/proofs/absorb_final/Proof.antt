@@ -35,7 +35,7 @@ use denote.Triple.Table.{entered, cited}
 use denote.Triple.Walked.{says, Stays, stay-ref, stay-none, walkOf, AllGo, goes-none, goes-ref, Walks, ends-at, walked, walk-meets}
 use denote.Exit.{yes}
 use Rattle.sha256.specs.Sha256.{sha256}
-use Rattle.transcript.specs.Transcript.{finish}
+use Rattle.transcript.specs.Transcript.{absorbFinal}
 use Rattle.transcript.specs.declared.Transcript.{Transcript}
 use Rattle.transcript.proofs.Transcript as T
 use Rattle.transcript.proofs.Transcript.absorb_final as value
@@ -82,8 +82,8 @@ module _ {M : Type 1} (𝓤 : URA M) (H : Heap 𝓤) (A : Atoms 𝓤) (W : Given
       qed W [] ∵ nothing ! $ owned ! usize (Is usize) (uint-makes 𝓤 H A W w64) n _ (good .1) $ fjoin ! $ owned ! Numbers (Is Numbers) (numbers-makes 𝓤 H A W) cs _ (good .0) $ fjoin ! $ owned ! T.the-row (Is T.the-row) (makes 𝓤 H A W) h _ was $ fjoin ! $
       nothing ! $ join ! $ frame ! $ done !
 
-  said : (r : Transcript) → ent 𝓤 (ensured 𝓤 H A value.ended (value.clauses 𝓤 H A at-mem run) tt (h, (cs, (n, tt))) tt r) (fact 𝓤 (r .state ≡ finish sha256 (h .state) (take n cs)))
-  said r = exE 𝓤 _ (λ ws. snd∗ 𝓤 (sem 𝓤 H A (lasts value.ended tt (h, (cs, (n, tt))) ws)) (fact 𝓤 (r .state ≡ finish sha256 (h .state) (take n cs))))
+  said : (r : Transcript) → ent 𝓤 (ensured 𝓤 H A value.ended (value.clauses 𝓤 H A at-mem run) tt (h, (cs, (n, tt))) tt r) (fact 𝓤 (r .state ≡ absorbFinal sha256 (h .state) (take n cs)))
+  said r = exE 𝓤 _ (λ ws. snd∗ 𝓤 (sem 𝓤 H A (lasts value.ended tt (h, (cs, (n, tt))) ws)) (fact 𝓤 (r .state ≡ absorbFinal sha256 (h .state) (take n cs))))
 
   gives : (v : Val) → ent 𝓤 (Value 𝓤 H A at-mem run .post at-call v) (H .⇛ (sem 𝓤 H A (T.the-row .own left (v ∷ []))))
   gives v = leaves 𝓤 H A W (λ r. ensured 𝓤 H A value.ended (value.clauses 𝓤 H A at-mem run) tt (h, (cs, (n, tt))) tt r) (left .state) said v
