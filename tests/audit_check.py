@@ -37,7 +37,7 @@ CASES = [
     ("a source file that the audit does not read", ("crates/field/src/outer/deeper.rt", None, SOURCE)),
     ("a module that the audit does not read", (FIELD, HEAD, "pub mod inner {\n    pub fn evil" + ASKS + "}\n" + HEAD)),
     ("a comment between /* and */", (FIELD, HEAD, "/* \" */ pub fn evil" + ASKS + "/* \" */\n" + HEAD)),
-    ("crates.txt: verdict names reader_items, which is for reader, reader_queries alone", ("crates.txt", "\nverdict: ", "\nverdict: reader_items ")),
+    ("crates.txt: verdict names reader_items, which is for reader, reader_pieces, reader_queries alone", ("crates.txt", "\nverdict: ", "\nverdict: reader_items ")),
     # tight
     ("field::add: not an equation", (FIELD, SUM, "⌜ r < p ⌝")),
     ("field::add: the right side speaks of the result", (FIELD, SUM, "⌜ r ≡ r % p ⌝")),
