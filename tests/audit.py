@@ -620,6 +620,26 @@ def theorems():
             fault("docs/PROMISES.md", f"{crate}/{file}: {name} is not stated there")
 
 
+def theorem_page(stated):
+    """The page of the promised theorems, with their statements."""
+    lines = [
+        "# The promised theorems",
+        "",
+        "Every theorem that [PROMISES](PROMISES.md) names, with its statement as the prover checks it. The words in it are defined in `crates/*/specs`; [TRUST](TRUST.md) lists what has to be read of them. `tests/audit.py --theorems` prints the same with line numbers.",
+        "",
+        "This page is written by `tests/audit.py --page`, and the audit fails where it is not what the proofs say.",
+    ]
+    for name, path, _, statement in stated:
+        lines += ["", f"## `{path.parts[1]}/{path.stem}: {name}`", "```", statement, "```"]
+    return "\n".join(lines) + "\n"
+
+
+def check_theorems(stated):
+    paper = ROOT / "docs" / "THEOREMS.md"
+    if not paper.exists() or paper.read_text() != theorem_page(stated):
+        fault(paper.relative_to(ROOT), "is not what the proofs say: tests/audit.py --page writes it")
+
+
 def check_papers():
     """Files that the papers name are there; `crate/File: name` has that name in that file."""
     for paper in [ROOT / "README.md", *sorted((ROOT / "docs").glob("**/*.md"))]:
@@ -694,8 +714,11 @@ def audit(listed=False, write=False):
     if write:
         (ROOT / "docs" / "WRONG-PROGRAMS.md").write_text(page(calls, edits))
     check_wrong_programs(calls, edits)
-    check_papers()
     stated = list(theorems())
+    if write:
+        (ROOT / "docs" / "THEOREMS.md").write_text(theorem_page(stated))
+    check_theorems(stated)
+    check_papers()
     check_trust()
     kinds = [e.kinds for of_crate in edits.values() for e in of_crate.values()]
     programs = sum(map(is_program, kinds))

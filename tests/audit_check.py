@@ -83,6 +83,7 @@ CASES = [
     ("field/src/lib.rt: divides by WORD, not by a power of two", (FIELD, "    correct(reduce_lazily(a))\n", "    let WORD: u64 = 3221225473;\n    (a % WORD) as u32\n")),
     ("field/src/lib.rt: calls libc, which the audit does not read", (FIELD, "    correct(reduce_lazily(a))\n", "    libc::rest(a)\n")),
     # edits and papers
+    ("docs/THEOREMS.md: is not what the proofs say", ("crates/demands/proofs/Meets.antt", "pub meets : Readers a", "pub meets : (b : Terms) → Readers b")),
     ("its text stands 0 times", (EDIT, "old: ", "old: not there ")),
     ("a line of no known kind", (EDIT, "old: field::add(x, x)\n", "old: field::add(x, x)\n}\n")),
     ("a line of no known kind: old: ", (EDIT, "old: field::add(x, x)\n", "old: field::add(x, x)\nold: field::add(x, x)\n")),

@@ -22,7 +22,7 @@ loop-holds : tie.Need-loop-holds Inv-loop μ-loop
 loop-holds c = (search needs, refl)
 
 returns : tie.Need-returns Inv-loop μ-loop
-returns c = chunk-rest _ _ (c .before .before .before .before .loop .i) (c .before .before .before .before .loop .inv .1) (c .proof-bytes .ensures)
+returns c = search (chunk-rest, needs)
 
 loop-again : tie.Need-loop-again Inv-loop μ-loop
 loop-again c = (search needs, fold-turn taken _ _ _ _ _ (c .before .before .before .loop-test .taken) (c .before .before .before .before .loop .inv .1) (c .head-byte .ensures))
