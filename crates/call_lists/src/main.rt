@@ -12,7 +12,7 @@ use reader_model::Reader;
 const END: usize = 65535;
 
 // What a call left: the state, and whether the input went on to the call's end.
-#[derive(Drop)]
+#[derive(Clone, Copy)]
 struct Turn {
     state: Reader,
     more: bool,

@@ -26,7 +26,7 @@ fn chunk(rest: u32) -> usize
 }
 
 // What was read of a job: its state, and whether all of its bytes came.
-#[derive(Drop)]
+#[derive(Clone, Copy)]
 struct Read {
     state: Job,
     whole: bool,

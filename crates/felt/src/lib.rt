@@ -8,14 +8,14 @@ use answer::Answer;
 
 // A field number. It is valid where its value is below the modulus.
 #[repr(C)]
-#[derive(Drop)]
+#[derive(Clone, Copy)]
 pub struct Felt {
     pub value: u32,
 }
 
 // A checked call's answer, and its value beside it: 0 beside a refusal.
 #[repr(C)]
-#[derive(Drop)]
+#[derive(Clone, Copy)]
 pub struct FieldAnswer {
     pub answer: Answer,
     pub value: Felt,

@@ -15,7 +15,7 @@ const HEAD_LAST: usize = HEAD_SIZE - 1;
 
 // A job so far: how many bytes of its head came, the head, zeros where none came yet, and the reader that the proof goes to, closed until the head is
 // whole.
-#[derive(Drop)]
+#[derive(Clone, Copy)]
 pub struct Job {
     pub got: usize,
     pub head: [u8; HEAD_SIZE],

@@ -48,7 +48,7 @@ fn stage_of(number: u8) -> Stage
 }
 
 // What a piece that ends inside the current item needs to know.
-#[derive(Drop)]
+#[derive(Clone, Copy)]
 pub struct Front {
     pub stage: Stage,
     pub start: u32,

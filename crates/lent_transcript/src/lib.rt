@@ -29,7 +29,7 @@ pub fn absorb_final(t: &mut Transcript, coefficients: [u32; 64], count: usize)
 
 // What a layer's root leaves: the state, and the challenge drawn from it.
 #[repr(C)]
-#[derive(Drop)]
+#[derive(Clone, Copy)]
 pub struct Absorbed {
     pub state: [u8; 32],
     pub challenge: u32,

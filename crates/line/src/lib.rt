@@ -6,7 +6,7 @@ ghost use Rattle.line.specs.Private.{longer};
 use answer::Answer;
 
 // A line: its characters, then zeros; and how many characters there are.
-#[derive(Drop)]
+#[derive(Clone, Copy)]
 pub struct Text {
     pub bytes: [u8; 32],
     pub length: usize,

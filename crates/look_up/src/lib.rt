@@ -7,7 +7,7 @@ use params::Params;
 
 // The answer, and the part of the proof as numbers: an exported call cannot return a reference, so its caller takes the part.
 #[repr(C)]
-#[derive(Drop)]
+#[derive(Clone, Copy)]
 pub struct Span {
     pub number: u8,
     pub place: u32,
@@ -84,7 +84,7 @@ fn look_up_part(p: Params, proof: &[u8], query: usize, layer: usize) -> &[u8]
 }
 
 // The answer, and the opening's bytes where they stand in the proof.
-#[derive(Drop)]
+#[derive(Clone, Copy)]
 pub struct Found<'a> {
     pub answer: Answer,
     pub part: &'a [u8],

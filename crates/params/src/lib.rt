@@ -4,7 +4,7 @@ ghost use Rattle.params.specs.Parameters as spec;
 ghost use Rattle.params.specs.Admission as admission;
 
 #[repr(C)]
-#[derive(Drop)]
+#[derive(Clone, Copy)]
 pub struct Params {
     pub n: u8,
     pub b: u8,
@@ -13,7 +13,7 @@ pub struct Params {
 }
 
 // What an opening is asked for: a proof under these parameters, bound to this context. A later argument is a field more here.
-#[derive(Drop)]
+#[derive(Clone, Copy)]
 pub struct Terms {
     pub params: Params,
     pub context: [u8; 32],

@@ -4,7 +4,7 @@ use answer::Answer;
 use params::Params;
 
 // What the current item is. Tail: the file is whole, and one byte more would be too many. Stopped: refused or closed, no item is read any more.
-#[derive(Drop)]
+#[derive(Clone, Copy)]
 pub enum Stage {
     ParameterCount,
     Parameters,
@@ -30,7 +30,7 @@ pub const VALUES: usize = 4;
 
 // Where the current item stands: the bytes before it, and its coefficient, query, layer, value and height.
 #[repr(C)]
-#[derive(Drop)]
+#[derive(Clone, Copy)]
 pub struct Cursor {
     pub start: u32,
     pub coefficient: usize,
@@ -43,7 +43,7 @@ pub struct Cursor {
 // A query's walk: its index in the layer, the number of the node at its height, the leaf's values, what the next layer's value must meet (scale times
 // it is folded), and the node.
 #[repr(C)]
-#[derive(Drop)]
+#[derive(Clone, Copy)]
 pub struct Walk {
     pub index: u32,
     pub position: u32,
@@ -54,7 +54,7 @@ pub struct Walk {
 }
 
 // What changes from item to item. The answer is that of a stopped reader.
-#[derive(Drop)]
+#[derive(Clone, Copy)]
 pub struct Core {
     pub stage: Stage,
     pub answer: Answer,
@@ -68,7 +68,7 @@ pub struct Core {
 
 // What sections 2 and 3 leave: the roots joined, the challenges, and the final coefficients.
 #[repr(C)]
-#[derive(Drop)]
+#[derive(Clone, Copy)]
 pub struct Tables {
     pub roots: [u8; ROOTS],
     pub challenges: [u32; CHALLENGES],
@@ -76,21 +76,21 @@ pub struct Tables {
 }
 
 // The reader's state: the small part, which goes from call to call by value, and the large one, which stays where it is.
-#[derive(Drop)]
+#[derive(Clone, Copy)]
 pub struct Reader {
     pub core: Core,
     pub tables: Tables,
 }
 
 // What a call gives: its answer, and the state that it leaves.
-#[derive(Drop)]
+#[derive(Clone, Copy)]
 pub struct Reply {
     pub answer: Answer,
     pub state: Reader,
 }
 
 // What a call on a state whose tables are lent gives: its answer, and the small part that it leaves.
-#[derive(Drop)]
+#[derive(Clone, Copy)]
 pub struct Progress {
     pub answer: Answer,
     pub core: Core,

@@ -14,7 +14,7 @@ pub const LONGEST: usize = 4096;
 
 // The answer to a message, and beside it the digest, or zeros beside a refusal.
 #[repr(C)]
-#[derive(Drop)]
+#[derive(Clone, Copy)]
 pub struct Hashed {
     pub answer: Answer,
     pub digest: [u8; 32],
@@ -130,7 +130,7 @@ fn next_word(w0: u32, w1: u32, w9: u32, w14: u32) -> u32
 }
 
 // What a turn leaves: the working variables eight rounds on, and the sixteen words of the schedule from there.
-#[derive(Drop)]
+#[derive(Clone, Copy)]
 struct Later {
     state: [u32; 8],
     words: [u32; 16],

@@ -11,7 +11,7 @@ const READS: u32 = 1000000;
 const TRIES: u32 = 10000000;
 
 // What a read left: the job, whether there may be more to read, and whether the read failed.
-#[derive(Drop)]
+#[derive(Clone, Copy)]
 struct Turn {
     state: Job,
     more: bool,
