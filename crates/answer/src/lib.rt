@@ -1,5 +1,7 @@
 // What every call answers: a number and a place (document 01, "When the reader says no"). The place counts the bytes of the file up to and
 // including the one that decides; a call that reads no file answers at 0.
+#![tactic(auto)]
+
 ghost use Rattle.std.specs.Prelude.{◌≡◌};
 ghost use Rattle.answer.specs.Table.{table};
 

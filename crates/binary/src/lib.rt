@@ -1,4 +1,6 @@
 // Powers of two, and a number cut into its low bits and the rest. All total.
+#![tactic(auto)]
+
 ghost use Rattle.std.specs.Prelude.{◌≡◌, ◌^◌, ◌%◌, ◌/◌};
 
 // 2^bits, and 0 where that is no number of 64 bits.

@@ -1,4 +1,6 @@
 // Lent buffers: bytes put at a place, numbers to the front, and buffers cleared. What does not fit is not put, not even in part.
+#![tactic(auto)]
+
 ghost use Rattle.std.specs.Prelude.{◌≡◌, ◌+◌, ◌≤◌, length};
 ghost use Rattle.std.proofs.lemmas.List.Edits.{sets};
 ghost use Rattle.buffer.specs.Buffer as spec;

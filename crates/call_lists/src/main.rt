@@ -1,6 +1,8 @@
 // Runs lists of calls, for the comparison with an independent program. Standard input is a run of scripts: n, b, k, q, 32 context bytes, the
 // number of calls in 2 bytes, then the calls. A call is 2 bytes: ffff is the end call, any other number a piece of that many bytes, which follow.
 // Numbers stand low byte first. Output: for each script `open NUMBER PLACE`, then a line `NUMBER PLACE` for each call.
+#![tactic(auto)]
+
 ghost use Rattle.std.specs.Prelude.{◌≡◌, ◌+◌, ◌*◌, ◌<◌, get_or};
 
 use answer::Answer;

@@ -1,4 +1,6 @@
 // Judges the jobs of the file `jobs` and writes the line of each. A job stands after its length, 4 bytes, low byte first.
+#![tactic(auto)]
+
 ghost use Rattle.std.specs.Prelude.{◌≤◌, ◌<◌};
 
 use job::Job;

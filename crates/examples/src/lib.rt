@@ -1,1 +1,2 @@
 // Document 01's worked examples: one table and one claim, no code.
+#![tactic(auto)]

@@ -1,5 +1,7 @@
 // The calls for programs in C and Rust, under C names. No call has a `requires`: each is safe and ends for all arguments, a state that no call
 // made among them.
+#![tactic(auto)]
+
 ghost use Rattle.std.specs.Prelude.{◌≡◌};
 ghost use Rattle.sha256.specs.Sha256.{sha256};
 ghost use Rattle.params.specs.Parameters as parameters;

@@ -1,5 +1,7 @@
 // The field's own kind of number (document 01, "The field"): its constants, the table of the subgroups' generators, and calls that refuse an argument
 // that is not below p.
+#![tactic(auto)]
+
 ghost use Rattle.std.specs.Prelude.{◌≡◌};
 ghost use Rattle.field.specs.Modular.{p, generator, subgroup_generator};
 ghost use Rattle.felt.specs.Checked.{refusal, success, checked, sum_answer, difference_answer, product_answer, negation_answer, power_answer, inverse_answer};

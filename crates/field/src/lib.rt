@@ -1,4 +1,6 @@
 // The prime field p = 3·2^30 + 1 (document 01, "The field"). The calls are total and reduce any argument; `felt` has those that refuse one.
+#![tactic(auto)]
+
 ghost use Rattle.std.specs.Prelude.{◌≡◌, ◌+◌, ◌*◌, ◌/◌, ◌%◌, ◌<◌};
 ghost use Rattle.field.specs.Modular.{p, add_mod, sub_mod, mul_mod, neg_mod, pow_mod, inv_mod};
 

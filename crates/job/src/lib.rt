@@ -1,5 +1,7 @@
 // Jobs: the parameter bytes, 32 context bytes, then the proof. A job is fed in chunks, with fixed memory, and judged at its end. Nothing here reads or
 // writes: a program moves the bytes, and decides nothing.
+#![tactic(auto)]
+
 ghost use Rattle.std.specs.Prelude.{◌≡◌, cond, ◌+◌, ◌-◌, ◌≤◌, ◌<◌, eqb, length};
 ghost use Rattle.job.specs.Job.{head_size, terms_in};
 ghost use Rattle.job.specs.Chunks.{opened_by, begun, taken, fed_chunk, finished, is_settled};

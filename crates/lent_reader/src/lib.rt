@@ -1,6 +1,8 @@
 // The reader as a caller holds it from call to call: arrays of numbers, lent to each call and changed in place. A piece that ends inside an item touches
 // the item alone; for any other the state is taken out of the arrays, goes through the reader by value, and is put back. Whatever numbers a caller hands
 // in are a state, and no call has a `requires`.
+#![tactic(auto)]
+
 mod parts;
 
 ghost use Rattle.std.specs.Prelude.{◌≡◌};

@@ -1,4 +1,6 @@
 // The transcript lent by `&mut` and changed in place: a thin layer over the transcript by value (document 01, "Transcript").
+#![tactic(auto)]
+
 ghost use Rattle.std.specs.Prelude.{◌≡◌, take};
 ghost use Rattle.sha256.specs.Sha256.{sha256};
 ghost use Rattle.transcript.specs.Transcript as spec;

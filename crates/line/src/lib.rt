@@ -1,4 +1,6 @@
 // The line that tells an answer: `accepted L` or `refused NUMBER at PLACE`, and a newline.
+#![tactic(auto)]
+
 ghost use Rattle.std.specs.Prelude.{◌≡◌, ◌+◌, ◌≤◌, length};
 ghost use Rattle.line.specs.Line.{line_of, stored, decimal};
 ghost use Rattle.line.specs.Private.{longer};

@@ -1,4 +1,6 @@
 // The look-up of one opening in a whole proof (document 01, "When the reader says no"): the caller's own bytes are handed back, not copied. It doesn't judge.
+#![tactic(auto)]
+
 ghost use Rattle.std.specs.Prelude.{◌≡◌};
 ghost use Rattle.look_up.specs.LookUp as spec;
 

@@ -1,4 +1,6 @@
 // The parameters of a proof (document 01, "Parameters and domain"), by value. A later parameter byte is a field more here; no signature changes.
+#![tactic(auto)]
+
 ghost use Rattle.std.specs.Prelude.{◌≡◌, get_or};
 ghost use Rattle.params.specs.Parameters as spec;
 ghost use Rattle.params.specs.Admission as admission;

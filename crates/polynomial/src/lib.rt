@@ -1,4 +1,6 @@
 // A polynomial in lent numbers: its values in a layer, and its fold in place.
+#![tactic(auto)]
+
 ghost use Rattle.std.specs.Prelude.{◌≡◌, ◌+◌, ◌*◌, ◌≤◌, length};
 ghost use Rattle.polynomial.specs.Polynomial as spec;
 

@@ -1,5 +1,7 @@
 // The streaming reader of FRI proofs. The file is a run of items of at most 32 bytes; bytes are gathered in a buffer, and whatever is decided is decided
 // at an item's last byte. Every function equals its definition in the crate below, with SHA-256 for the hash.
+#![tactic(auto)]
+
 ghost use Rattle.std.specs.Prelude.{◌≡◌, cond, ◌+◌, ◌<◌, ltb, length};
 ghost use Rattle.sha256.specs.Sha256.{sha256};
 ghost use Rattle.reader_model.specs.State.{item_length, closed_state, tables, whole};

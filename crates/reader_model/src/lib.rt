@@ -1,5 +1,7 @@
 // The reader's state. The crate has no functions: its definitions are the model of the reader, its theorem the claim about the model. The code that
 // equals the model is in the crate above. Structs with C's layout are parts of the state that callers in C and Rust hold.
+#![tactic(auto)]
+
 use answer::Answer;
 use params::Params;
 

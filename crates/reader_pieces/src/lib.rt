@@ -1,5 +1,7 @@
 // The loop over a piece: bytes are gathered in the item's buffer, and whatever is decided is decided at an item's last byte. For the crate `reader`
 // alone: `gather` requires what its callers have tested.
+#![tactic(auto)]
+
 ghost use Rattle.std.specs.Prelude.{◌≡◌, ◌+◌, ◌≤◌, ◌<◌, min, length, take};
 ghost use Rattle.std.proofs.lemmas.List.Edits.{sets};
 ghost use Rattle.sha256.specs.Sha256.{sha256};

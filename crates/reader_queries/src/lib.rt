@@ -1,4 +1,6 @@
 // What the items of the queries do: the values of an opening, and its siblings up to the root. For the crate `reader` alone, as `reader_items`.
+#![tactic(auto)]
+
 ghost use Rattle.std.specs.Prelude.{◌≡◌, ◌+◌, ◌*◌, ◌<◌, ◌%◌, ◌/◌, length, take, drop};
 ghost use Rattle.sha256.specs.Sha256.{sha256};
 ghost use Rattle.merkle.specs.Merkle.{parent};

@@ -1,5 +1,7 @@
 // SHA-256 (FIPS 180-4) of a message of at most 4,096 bytes. The definitions that the contracts cite are in specs/.
 // The hash value, of eight words, and the message schedule, sixteen words of it at a time, go in and come back by value.
+#![tactic(auto)]
+
 ghost use Rattle.std.specs.Prelude.{◌≡◌, ◌+◌, ◌*◌, ◌/◌, ◌%◌, ◌^◌, ◌<◌, ◌≤◌, ◌-◌, length, get_or};
 ghost use Rattle.sha256.specs.Words.{ch, maj, big_sigma0, big_sigma1, small_sigma0, small_sigma1};
 ghost use Rattle.sha256.specs.Constants.{round_constants};

@@ -1,5 +1,7 @@
 // A Merkle tree in lent bytes: the digests of a layer's leaves, the tree over digests, whose rows stand one after the other with the root last, and
 // the path of a leaf read from there.
+#![tactic(auto)]
+
 ghost use Rattle.std.specs.Prelude.{◌≡◌, ◌+◌, ◌*◌, ◌^◌, ◌%◌, ◌≤◌, ◌<◌, length, take, drop};
 ghost use Rattle.std.proofs.lemmas.List.Edits.{sets};
 ghost use Rattle.sha256.specs.Sha256.{sha256};

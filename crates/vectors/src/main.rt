@@ -1,6 +1,8 @@
 // Writes the SHA-256 digests of NIST's vectors, a line each: those of the messages in the file `messages`, then the checkpoints of the
 // Monte test. In the file a message is its length, 2 bytes, low byte first, then its bytes. The length ffff ends the messages, and the
 // Monte test's seed follows.
+#![tactic(auto)]
+
 ghost use Rattle.std.specs.Prelude.{◌≡◌, ◌++◌, ◌+◌, ◌*◌, ◌<◌, get_or};
 ghost use Rattle.vectors.specs.Monte as spec;
 

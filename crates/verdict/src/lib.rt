@@ -1,4 +1,6 @@
 // The verdict on a proof, through the reader: its contract is the judgement itself, and no model of the reader is in it.
+#![tactic(auto)]
+
 mod pieces;
 
 ghost use Rattle.std.specs.Prelude.{◌≡◌};

@@ -1,5 +1,7 @@
 // Judges the job on standard input and writes its line. Whatever is decided is decided by `job`, of slices; here bytes are moved. A read that fails
 // leaves the job without a line.
+#![tactic(auto)]
+
 use job::Job;
 use libc::{STDERR_FILENO, STDOUT_FILENO};
 

@@ -1,4 +1,6 @@
 // The writer of proofs (request 2026-02): parameters, context and coefficients in, the file that document 01 builds out, worked out in lent scratch.
+#![tactic(auto)]
+
 ghost use Rattle.std.specs.Prelude.{◌≡◌};
 ghost use Rattle.sha256.specs.Sha256.{sha256};
 ghost use Rattle.writer.specs.Writer as spec;

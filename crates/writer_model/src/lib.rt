@@ -1,1 +1,2 @@
 // The writer's buffers, step by step: definitions and theorems only.
+#![tactic(auto)]
