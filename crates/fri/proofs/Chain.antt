@@ -100,10 +100,10 @@ module _ (hash : List ℕ → Digest) (p : Params) (final : List ℕ) where
   layers_chain [] [] h = end h.meets
   layers_chain [] (o ∷ os) h = absurd (omega (arith, h.count))
   layers_chain (root ∷ roots) [] h = absurd (omega (arith, h.count))
-  layers_chain {j = j} {m = m} {e = e} {s = s} (root ∷ roots) (o ∷ os) h =
+  layers_chain {j} {m} {e} {s} (root ∷ roots) (o ∷ os) h =
       let here = h.layer 0 j (omega arith) (omega arith) in
       layer here.form h.meets here.opens
-      (layers_chain {j = suc j} {m = m % leaf_count p j} {e = after hash p j (m % leaf_count p j) (absorb hash s root) o} {s = absorb hash s root} roots os
+      (layers_chain {j = suc j} {e = after hash p j (m % leaf_count p j) (absorb hash s root) o} roots os
       (record {
         count = omega (arith, h.count);
         meets = folds_fit _ _ o.values _ here.folds;
