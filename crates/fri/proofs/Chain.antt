@@ -103,7 +103,7 @@ module _ (hash : List ℕ → Digest) (p : Params) (final : List ℕ) where
   layers_chain {j} {m} {e} {s} (root ∷ roots) (o ∷ os) h =
       let here = h.layer 0 j (omega arith) (omega arith) in
       layer here.form h.meets here.opens
-      (layers_chain {e = after hash p j (m % leaf_count p j) (absorb hash s root) o} roots os
+      (layers_chain {j = suc j} {e = after hash p j (m % leaf_count p j) (absorb hash s root) o} roots os
       (record {
         count = omega (arith, h.count);
         meets = folds_fit _ _ o.values _ here.folds;

@@ -27,7 +27,7 @@ use Rattle.calls.proofs.Follows.{ShutByte}
 use Rattle.calls.proofs.Denotes.{Denotes}
 use Rattle.calls.proofs.Within.{sections_begin}
 use Rattle.reader_model.specs.declared.Stage.{Stage}
-use Rattle.reader_model.specs.declared.Stage.TheVariants.{ParameterCount, Parameters, RootCount, Root, CoefficientCount, Coefficient, QueryCount, Value, Sibling, Tail}
+use Rattle.reader_model.specs.declared.Stage.TheVariants.{ParameterCount, Parameters, RootCount, Root, CoefficientCount, Coefficient, QueryCount, Value, Sibling, Tail, Stopped}
 use Rattle.reader_model.specs.declared.Cursor.{Cursor}
 use Rattle.reader_model.specs.declared.Walk.{Walk}
 use Rattle.reader_model.specs.declared.Core.{Core}
@@ -96,6 +96,8 @@ module _ (hash : List ℕ → Digest) (first : Digest) where
   waits QueryCount u (query-count l) = open_item refl (omega arith) (omega arith) refl refl
   waits Value u (value w more h f e total) = open_item refl (omega arith) (omega arith) refl refl
   waits Sibling u (sibling w more h) = open_item refl (omega arith) (omega arith) refl refl
+  waits Tail u x = elim x [ ]
+  waits Stopped u x = elim x [ ]
 
   -- A whole item, of every stage. Counts that are wanted are above 0, so at least one root, coefficient and query follow.
   dispatch : (c : Core) (t : Tables) (s : Sound c) (g : Stage) (u : ℕ) (f : List ℕ → Process) → At hash first c t g u f
@@ -126,6 +128,8 @@ module _ (hash : List ℕ → Digest) (first : Digest) where
   dispatch c t s Value u f (value w more h g e total) = after_value_lem hash first c t s w more h g e total
   dispatch c t s Sibling u f (sibling w more h) =
       leaves_as (after_sibling_lem hash first c t s w more h) (ap f (sym (take_all 32 c.item (omega arith))))
+  dispatch c t s Tail u f x = elim x [ ]
+  dispatch c t s Stopped u f x = elim x [ ]
 
 -- The state r after d bytes, where this is left of the judgement, and `held` are the bytes of its next item that are there: within an item, after the
 -- last one, and refused. The bytes that are left to read are few, so that places stay within the model's bounds.
@@ -193,7 +197,7 @@ module _ (hash : List ℕ → Digest) (first : Digest) where
   settle c t d (need u f) v (goes s a e h) w few =
       reads {u = u} {v = v} {d = d} {f = f} {held = []} s a (rw e) (omega (arith, waits hash first c.stage u a)) (omega arith) w (omega arith)
   settle c t d done v (Rest.ends s e f h) w few = whole s e f h (omega arith)
-  settle c t d (fail number) v (stops h e) w few = refusing h e
+  settle c t d (fail _) v (stops h e) w few = refusing h e
 
   -- The first state.
   starts : (p : Params) → Valid p → Stands hash first (started p first) (sections hash p first (λ _. done)) [] 0
@@ -307,8 +311,10 @@ module _ (hash : List ℕ → Digest) (first : Digest) where
       by false e =
           let full : suc (length held) ≡ u = omega (arith, ltb-false (suc (length held)) u e, room h) in
           record { process = f (held ++ x ∷ []); held = []; total = suc d; stands = last h x full }
+  one_more r done (_ ∷ _) d h x = elim h [ ]
+  one_more r (fail n) (_ ∷ _) d h x = elim h [ ]
   one_more r done [] d h x = record { process = fail byte_after_the_end; held = []; total = suc d; stands = past h x }
-  one_more r (fail number) [] d h x = record { process = fail number; held = []; total = d; stands = rw (stays h x) h }
+  one_more r (fail n) [] d h x = record { process = fail n; held = []; total = d; stands = rw (stays h x) h }
 
   pub reaches : (xs : List ℕ) {r : Reader} → Reached r → Reached (foldl (step hash) r xs)
   reaches [] h = h

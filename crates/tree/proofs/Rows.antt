@@ -103,9 +103,9 @@ unfolding digests
 front_sized zero xs h = Sized.none
 front_sized (suc n) xs h = Sized.more (length-take-le 32 xs (omega arith)) (front_sized n (drop 32 xs) (omega (arith, length-drop 32 xs)))
 
-pub root_over : {made root : List ℕ} (space : List ℕ) (d size : ℕ) → length space ≡ tree_size d → size ≡ tree_size d
+pub rows_root : {made root : List ℕ} (space : List ℕ) (d size : ℕ) → length space ≡ tree_size d → size ≡ tree_size d
     → made ≡ rows sha256 d (digests (2 ^ d) space) → root ≡ part (size - 32) 32 made → root ≡ root_of sha256 d (digests (2 ^ d) space)
-root_over space d size h q e f =
+rows_root space d size h q e f =
     f
     ∙ ap₂ (λ (k : ℕ) (x : List ℕ). part (k - 32) 32 x) q e
     ∙ root_read d (digests (2 ^ d) space) (front_sized (2 ^ d) space (omega (arith, size_even d, one-le-pow d 2 (omega arith)))) (digests-length (2 ^ d) space)
