@@ -1,0 +1,13 @@
+use Prim.Native.Nat.{◌≤◌, ◌-◌}
+use mathlib.Core.Path.{◌≡◌, refl}
+use lib.ListN.{length, take}
+use lib.Seq.{sets}
+use Rattle.buffer.proofs.BufferLaws.{copy_done, front_more}
+use borrow.Author.Rules.{rules}
+use Rattle.buffer.proofs.copy_numbers.Given as goal
+
+abbrev pub invariant-loop-i : goal.invariant-loop-i
+invariant-loop-i l = (l.i ≤ length l.part) × ((length l.numbers ≡ length l.initial.numbers) × (l.numbers ≡ sets l.initial.numbers 0 (take l.i l.part)))
+
+abbrev pub decreases-loop-i : goal.decreases-loop-i
+decreases-loop-i l = length l.part - l.i

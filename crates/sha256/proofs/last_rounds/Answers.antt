@@ -1,0 +1,27 @@
+-- `sha256::last_rounds` meets its contract. The loop's invariant: n is a multiple of 8, and the state is that after 48 + n rounds, whatever schedule
+-- and hash value it is.
+use mathlib.Core.Path.{◌≡◌, refl, ap, ◌∙◌}
+use mathlib.Core.List.{List}
+use Prim.Native.Nat.{ℕ, ◌+◌, ◌-◌, ◌%◌, ◌≤◌}
+use native.Mathlib.Omega.{arith}
+use Rattle.sha256.specs.Sha256.{rounds}
+use Rattle.sha256.specs.Private.{window}
+use Rattle.sha256.proofs.RoundLaws.{last_eight}
+use Rattle.sha256.proofs.last_rounds.Goals as goal
+
+pub loop-n-preserved : goal.loop-n-preserved
+loop-n-preserved c =
+    let start = c.loop-n in
+    let fits : start.n + 8 ≤ 16 = omega (arith, start.invariant.0, start.invariant.1, c.loop-n-test.true) in (
+      omega (arith, fits),
+      omega (arith, start.invariant.1),
+      λ words h e p. last_eight _ _ words h start.n c.requires fits e (start.invariant.2 words h e p)
+          c.round_at-s0.ensures
+          c.round_at-s1.ensures
+          c.round_at-s2.ensures
+          c.round_at-s3.ensures
+          c.round_at-s4.ensures
+          c.round_at-s5.ensures
+          c.round_at-s6.ensures
+          c.round_at-s7.ensures,
+    )
