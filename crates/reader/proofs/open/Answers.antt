@@ -1,5 +1,4 @@
 -- `reader::open` meets its contract.
--- Assumes nothing.
 use Prim.Native.Nat.{ℕ}
 use mathlib.Core.List.{List}
 use mathlib.Core.Path.{◌≡◌, sym, ap, ◌∙◌}
@@ -15,8 +14,7 @@ use Rattle.reader_model.specs.declared.Reader.{Reader}
 use Rattle.reader_model.specs.declared.Reply.{Reply}
 use Rattle.reader_model.specs.State.{closed_state}
 use Rattle.reader_model.specs.Model.{started, opened}
-use Rattle.reader.proofs.open.Statement.{statement}
-use Rattle.reader.proofs.open.Tie as tie
+use Rattle.reader.proofs.open.Goals as goal
 
 admitted : {n : ℕ} {r : Reader} {s : List ℕ} (a : Terms) → n ≡ admission_of a → n ≡ open_so_far → s ≡ start sha256 (header a.params) a.context
     → r ≡ started a.params s → ◌≡◌ {A = Reply} (record { answer = answered open_so_far 0; state = r }) (opened sha256 a)
@@ -30,24 +28,8 @@ refused : {n : ℕ} {r : Reader} (a : Terms) → n ≡ admission_of a → ¬ (n 
 unfolding opened
 refused a e n f = rw (e, f, admits_false a.params (λ m. n (e ∙ m)))
 
-admission-requires : tie.Need-admission-requires
-admission-requires c κs = search rules
+pub returns-then-number-eq-OPEN : goal.returns-then-number-eq-OPEN
+returns-then-number-eq-OPEN c = search (admitted, rules)
 
-start-requires : tie.Need-start-requires
-start-requires c κs = search rules
-
-start-requires-2 : tie.Need-start-requires-2
-start-requires-2 c κs = search rules
-
-closed-state-requires : tie.Need-closed-state-requires
-closed-state-requires c κs = search rules
-
-returns : tie.Need-returns
-returns c = search (admitted, rules)
-
-returns-2 : tie.Need-returns-2
-returns-2 c = search (refused, rules)
-
-pub open_spec : {M : Type 1} → statement M
-open_spec =
-    tie.close (tie.spec admission-requires start-requires start-requires-2 closed-state-requires returns returns-2)
+pub returns-else-number-eq-OPEN : goal.returns-else-number-eq-OPEN
+returns-else-number-eq-OPEN c = search (refused, rules)
