@@ -4,4 +4,4 @@ use Rattle.job.proofs.Laws.{begins}
 use Rattle.job.proofs.begin.Goals as goal
 
 pub returns : goal.returns
-returns c = begins c.closed.ensures
+returns c = begins c.closed-reader.ensures
