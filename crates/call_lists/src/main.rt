@@ -6,9 +6,10 @@
 ghost use Rattle.std.specs.Prelude.{◌≡◌, ◌+◌, ◌*◌, ◌<◌, get_or};
 
 use answer::Answer;
-use libc::STDOUT_FILENO;
 use params::Terms;
 use reader_model::Reader;
+use std::io;
+use std::io::{ErrorKind, Read};
 
 // What stands for a piece's length in an end call.
 const END: usize = 65535;
@@ -33,99 +34,115 @@ fn number_of(b: [u8; 2]) -> usize
     (wide(b[0]) + 256 * wide(b[1])) as usize
 }
 
-fn print_answer(a: Answer) {
-    io::print_decimal(STDOUT_FILENO, wide(a.number));
-    io::write_all(STDOUT_FILENO, b" ");
-    io::print_decimal(STDOUT_FILENO, a.place as u64);
-    io::write_all(STDOUT_FILENO, b"\n");
+// Reads until the buffer is full; false where the input ends before.
+fn read_full<R: Read>(input: &mut R, buf: &mut [u8]) -> io::Result<bool> {
+    match input.read_exact(buf) {
+        Ok(()) => Ok(true),
+        Err(e) => {
+            if e.kind() == ErrorKind::UnexpectedEof {
+                Ok(false)
+            } else {
+                Err(e)
+            }
+        }
+    }
 }
 
-fn run_end(state: Reader) -> Turn {
+fn print_answer(rt: &impl Print, a: Answer) -> io::Result<()> {
+    let number = a.number;
+    let place = a.place;
+    println!(rt; "{number} {place}")
+}
+
+fn run_end(rt: &impl Print, state: Reader) -> io::Result<Turn> {
     let reply = reader::end(state);
-    print_answer(reply.answer);
+    print_answer(rt, reply.answer)?;
     let next = reply.state;
-    Turn {
+    Ok(Turn {
         state: next,
         more: true,
-    }
+    })
 }
 
 // A piece of len bytes. Every length in 2 bytes fits the buffer.
-fn run_piece(state: Reader, len: usize) -> Turn
+fn run_piece<R: Read>(rt: &impl Print, input: &mut R, state: Reader, len: usize) -> io::Result<Turn>
     requires { len < 65536 }
 {
-    let mut buf = io::large_buffer();
-    let filled = io::read_full(0, &mut buf[..len]);
-    if filled < len {
-        return Turn { state, more: false };
+    let mut buf = [0u8; 65536];
+    if !read_full(input, &mut buf[..len])? {
+        return Ok(Turn { state, more: false });
     }
     let reply = reader::piece(state, &buf[..len]);
-    print_answer(reply.answer);
+    print_answer(rt, reply.answer)?;
     let next = reply.state;
-    Turn {
+    Ok(Turn {
         state: next,
         more: true,
-    }
+    })
 }
 
-fn run_call(state: Reader) -> Turn {
+fn run_call<R: Read>(rt: &impl Print, input: &mut R, state: Reader) -> io::Result<Turn> {
     let mut size = [0u8; 2];
-    let got = io::read_full(0, &mut size);
-    if got < 2 {
-        return Turn { state, more: false };
+    if !read_full(input, &mut size)? {
+        return Ok(Turn { state, more: false });
     }
     let len = number_of(size);
     if len == END {
-        return run_end(state);
+        return run_end(rt, state);
     }
-    run_piece(state, len)
+    run_piece(rt, input, state, len)
 }
 
 // The calls of a script, each on the state that the call before it left; false where the input ends among them.
-fn run_calls(state: Reader, count: usize) -> bool {
+fn run_calls<R: Read>(
+    rt: &impl Print,
+    input: &mut R,
+    state: Reader,
+    count: usize,
+) -> io::Result<bool> {
     let mut s = state;
-    let mut left = count;
-    while 0 < left {
-        let turn = run_call(s);
+    for _ in 0..count {
+        let turn = run_call(rt, input, s)?;
         s = turn.state;
         if !turn.more {
-            return false;
+            return Ok(false);
         }
-        left -= 1;
     }
-    true
+    Ok(true)
 }
 
 // The opening, also one that is refused, and the calls.
-fn run_opened(a: Terms, count: usize) -> bool {
+fn run_opened<R: Read>(rt: &impl Print, input: &mut R, a: Terms, count: usize) -> io::Result<bool> {
     let opened = reader::open(a);
-    io::write_all(STDOUT_FILENO, b"open ");
-    print_answer(opened.answer);
-    run_calls(opened.state, count)
+    print!(rt; "open ")?;
+    print_answer(rt, opened.answer)?;
+    run_calls(rt, input, opened.state, count)
 }
 
 // One script; false at the end of the input.
-fn run_script() -> bool {
+fn run_script<R: Read>(rt: &impl Print, input: &mut R) -> io::Result<bool> {
     let mut p = [0u8; params::HEADER_SIZE];
     let mut context = [0u8; 32];
     let mut size = [0u8; 2];
-    if io::read_full(0, &mut p) < params::HEADER_SIZE {
-        return false;
+    if !read_full(input, &mut p)? {
+        return Ok(false);
     }
-    if io::read_full(0, &mut context) < 32 {
-        return false;
+    if !read_full(input, &mut context)? {
+        return Ok(false);
     }
-    if io::read_full(0, &mut size) < 2 {
-        return false;
+    if !read_full(input, &mut size)? {
+        return Ok(false);
     }
     let params = params::from_header(&p);
-    run_opened(Terms { params, context }, number_of(size))
+    run_opened(rt, input, Terms { params, context }, number_of(size))
 }
 
-fn main() {
+fn main(rt: HostRuntime) -> io::Result<()> {
     // A bound far above the number of scripts, so that the loop ends whatever the input holds.
-    let mut left = u32::MAX;
-    while 0 < left && run_script() {
-        left -= 1;
+    for _ in 0..u32::MAX {
+        if !run_script(&rt, &mut rt.stdin())? {
+            break;
+        }
     }
+    Ok(())
 }

@@ -4,7 +4,8 @@
 ghost use Rattle.std.specs.Prelude.{◌≤◌, ◌<◌};
 
 use job::Job;
-use libc::STDOUT_FILENO;
+use std::io::{ErrorKind, Read, Write};
+use std::{fs, io};
 
 fn wide(x: u8) -> u32
     ensures { result < 256 }
@@ -27,62 +28,65 @@ fn chunk(rest: u32) -> usize
     if rest < 4096 { rest as usize } else { 4096 }
 }
 
-// What was read of a job: its state, and whether all of its bytes came.
-#[derive(Clone, Copy)]
-struct Read {
-    state: Job,
-    whole: bool,
+// Reads until the buffer is full; false where the file ends before.
+fn read_full<R: Read>(input: &mut R, buf: &mut [u8]) -> io::Result<bool> {
+    match input.read_exact(buf) {
+        Ok(()) => Ok(true),
+        Err(e) => {
+            if e.kind() == ErrorKind::UnexpectedEof {
+                Ok(false)
+            } else {
+                Err(e)
+            }
+        }
+    }
 }
 
-// Reads a job of so many bytes.
-fn read_job(fd: i32, count: u32) -> Read {
+// Reads a job of so many bytes; none where the file ends before.
+fn read_job<R: Read>(input: &mut R, count: u32) -> io::Result<Option<Job>> {
     let mut state = job::begin();
     let mut rest = count;
     while 0 < rest {
         let want = chunk(rest);
-        let mut buf = io::buffer();
-        let got = io::read_full(fd, &mut buf[..want]);
-        if got < want {
-            return Read {
-                state,
-                whole: false,
-            };
+        let mut buf = [0u8; 4096];
+        if !read_full(input, &mut buf[..want])? {
+            return Ok(None);
         }
         let next = job::feed(state, &buf[..want]);
         state = next;
         rest -= want as u32;
     }
-    Read { state, whole: true }
+    Ok(Some(state))
 }
 
 // One job; false where the file ends.
-fn run_job(fd: i32) -> bool {
+fn run_job<R: Read, W: Write>(input: &mut R, out: &mut W) -> io::Result<bool> {
     let mut size = [0u8; 4];
-    let got = io::read_full(fd, &mut size);
-    if got < 4 {
-        return false;
+    if !read_full(input, &mut size)? {
+        return Ok(false);
     }
-    let read = read_job(fd, length_of(&size));
-    if !read.whole {
-        return false;
+    match read_job(input, length_of(&size))? {
+        None => Ok(false),
+        Some(state) => {
+            let line = line::line(job::finish(state));
+            let bytes = line.bytes;
+            let length = line.length;
+            out.write_all(&bytes[..length])?;
+            Ok(true)
+        }
     }
-    let line = line::line(job::finish(read.state));
-    let bytes = line.bytes;
-    let length = line.length;
-    io::write_all(STDOUT_FILENO, &bytes[..length]);
-    true
 }
 
-fn main() {
-    let fd = os::open_read(b"jobs");
-    if fd < 0 {
-        os::fail(b"jobs");
-        return;
-    }
+fn main(rt: HostRuntime) -> io::Result<()> {
+    let mut file = match fs::open(&rt, "jobs") {
+        Ok(file) => file,
+        Err(e) => return eprintln!(rt; "jobs: {e}"),
+    };
     // A bound well above the number of jobs, so that the loop ends whatever the file holds.
-    let mut left = 100000u32;
-    while 0 < left && run_job(fd) {
-        left -= 1;
+    for _ in 0..100000u32 {
+        if !run_job(&mut file, &mut rt.stdout())? {
+            break;
+        }
     }
-    libc::close(fd);
+    Ok(())
 }
