@@ -101,10 +101,8 @@ fn joined(a: [u8; 32], b: [u8; 32], c: [u8; 32]) -> [u8; 96]
     ensures { result ≡ a ++ (b ++ c) }
 {
     let mut m = [0u8; 96];
-    let mut i = 0;
-    while i < 96 {
+    for i in 0..96 {
         m[i] = joined_byte(a, b, c, i);
-        i += 1;
     }
     m
 }
@@ -116,15 +114,13 @@ fn checkpoint(seed: [u8; 32]) -> [u8; 32]
     let mut a = seed;
     let mut b = seed;
     let mut c = seed;
-    let mut i = 0usize;
-    while i < TURNS {
+    for _ in 0..TURNS {
         let m = joined(a, b, c);
         let h = sha256::hash(&m);
         let d = h.digest;
         a = b;
         b = c;
         c = d;
-        i += 1;
     }
     c
 }
