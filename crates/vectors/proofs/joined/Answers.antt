@@ -1,5 +1,5 @@
 -- `vectors::joined`: an array whose bytes are those of a list, all 96, is the list.
-use Rattle.std.proofs.Common.{arith, ◌≢◌, ◌<◌, ℕ, ◌∙◌, length, length-set, get_or-set_other, get_or-set_same, below_more, rules}
+use Rattle.std.proofs.Common.{arith, ◌≢◌, ◌<◌, ◌∙◌, length, length-set, get_or-set_other, get_or-set_same, below_more, rules}
 use Rattle.vectors.proofs.MonteLaws.{same_list, length_three}
 use Rattle.vectors.proofs.joined.Goals as goal
 
@@ -7,8 +7,8 @@ pub loop-i-preserved : goal.loop-i-preserved
 loop-i-preserved c = record {
   whole = length-set _ _ _ ∙ c.loop-i.invariant.whole;
   front = below_more _ _
-    (λ k h. let ne : k ≢ c.loop-i.i = omega arith in rw get_or-set_other (c.loop-i.invariant.front k h))
-    (let lt : c.loop-i.i < length c.loop-i.m = omega arith in rw get_or-set_same c.joined_byte.ensures);
+      (λ k h. let ne : k ≢ c.loop-i.i = omega arith in rw get_or-set_other (c.loop-i.invariant.front k h))
+      (let lt : c.loop-i.i < length c.loop-i.m = omega arith in rw get_or-set_same c.joined_byte.ensures);
 }
 
 pub returns : goal.returns
