@@ -1,12 +1,13 @@
 -- A job that was fed what a reader gave, and its answer.
 -- Assumes nothing.
-use Rattle.std.proofs.Common.{◌≡◌, ℕ, List, [], ◌∷◌, ◌++◌, true, None, Some, IfSome, refl, sym, ap, ◌∙◌, append_assoc, append-nil, subst}
-use mathlib.Core.List.{foldl, foldl-append}
+use Rattle.std.proofs.Common.{◌≡◌, ℕ, List, [], ◌∷◌, ◌++◌, true, None, Some, IfSome, sym, ap, ◌∙◌, append-nil, subst}
+use mathlib.Core.List.{foldl-append}
 use Rattle.std.specs.Io.KnownBytes.{Consumes, IsAtEnd}
 use Rattle.std.proofs.KnownBytes.{Consumes-nil, Consumes-trans}
 use Rattle.std.specs.declared.option.Option.{Option}
 use Rattle.answer.specs.declared.Answer.{Answer}
 use Rattle.message.specs.Bytes.{joined}
+use Rattle.message.proofs.Bytes.{joined_snoc}
 use Rattle.job.specs.declared.Job.{Job}
 use Rattle.job.specs.Job.{job_answer}
 use Rattle.job.specs.Chunks.{begun, fed_chunk, finished, is_settled, job_after}
@@ -18,11 +19,6 @@ pub record Fed (first now : Option (List ℕ)) (state : Job) : Type 0 where
   pub reached : state ≡ job_after chunks
   pub taken : Consumes first now (joined chunks)
 
-joined_more : (chunks : List (List ℕ)) (chunk : List ℕ) → joined (chunks ++ (chunk ∷ [])) ≡ joined chunks ++ chunk
-unfolding joined
-joined_more [] chunk = append-nil chunk
-joined_more (c ∷ cs) chunk = ap (λ l. c ++ l) (joined_more cs chunk) ∙ sym (append_assoc c (joined cs) chunk)
-
 pub fed_none : (first : Option (List ℕ)) {state : Job} → state ≡ begun → Fed first first state
 unfolding joined
 fed_none first e = record { chunks = []; reached = e; taken = Consumes-nil first }
@@ -32,7 +28,7 @@ pub fed_more : {first old now : Option (List ℕ)} {state next : Job} (chunk : L
 fed_more {first} {old} {now} {state} chunk h more e = record {
   chunks = h.chunks ++ (chunk ∷ []);
   reached = e ∙ ap (λ s. fed_chunk s chunk) h.reached ∙ sym (foldl-append fed_chunk begun h.chunks (chunk ∷ []));
-  taken = subst (Consumes first now) (sym (joined_more h.chunks chunk)) (Consumes-trans first old now (joined h.chunks) chunk h.taken more);
+  taken = subst (Consumes first now) (sym (joined_snoc h.chunks chunk)) (Consumes-trans first old now (joined h.chunks) chunk h.taken more);
 }
 
 -- Nothing is left.

@@ -1,7 +1,5 @@
 -- `verify::write_line`: what is cut off at the line's length is the line.
-use Rattle.std.proofs.Common.{rules, ap, subst, take, List, ℕ}
-use Rattle.std.specs.Prelude.{OnOk}
-use Rattle.std.specs.Io.KnownBytes.{Appends}
+use Rattle.std.proofs.Common.{rules}
 use Rattle.line.specs.Line.{line_of}
 use Rattle.line.proofs.Texts.{line_counts, shown}
 use Rattle.verify.proofs.write_line.Goals as goal
