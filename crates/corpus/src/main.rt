@@ -1,19 +1,27 @@
 // Judges the jobs of the file `jobs` and writes the line of each. A job stands after its length, 4 bytes, low byte first.
 #![tactic(auto)]
 
-ghost use Rattle.std.specs.Prelude.{◌≤◌, ◌<◌};
+ghost use Rattle.std.specs.Prelude.{◌≡◌, ◌≤◌, ◌<◌, IfOk, OnOk, IfSome, IsTrue, IsFalse};
+ghost use Rattle.std.specs.Io.KnownBytes.{Consumes, Appends, Keeps};
+ghost use Rattle.message.specs.Bytes.{num};
+ghost use Rattle.line.specs.Line.{line_of};
+ghost use Rattle.corpus.specs.Jobs.{FeedsNext, TakesJob, TellsJob};
 
+use answer::Answer;
 use job::Job;
-use libc::STDOUT_FILENO;
+use std::io::{ErrorKind, Read, Write};
+use std::{fs, io};
 
 fn wide(x: u8) -> u32
-    ensures { result < 256 }
+    ensures { (result ≡ x) × (result < 256) }
 {
     x as u32
 }
 
 // The number in 4 bytes.
-fn length_of(b: &[u8; 4]) -> u32 {
+fn length_of(b: &[u8; 4]) -> u32
+    ensures { result ≡ num b.now }
+{
     let low = wide(b[0]) + 256 * wide(b[1]);
     let high = wide(b[2]) + 256 * wide(b[3]);
     low + 65536 * high
@@ -27,62 +35,94 @@ fn chunk(rest: u32) -> usize
     if rest < 4096 { rest as usize } else { 4096 }
 }
 
-// What was read of a job: its state, and whether all of its bytes came.
-#[derive(Clone, Copy)]
-struct Read {
-    state: Job,
-    whole: bool,
+// Reads until the buffer is full; false where the file ends before.
+fn read_full<R: Read>(input: &mut R, buf: &mut [u8]) -> io::Result<bool>
+    ensures { IfOk result (λ full. IsTrue full → Consumes (R.remaining input.old) (R.remaining input.new) buf.new) }
+{
+    match input.read_exact(buf) {
+        Ok(()) => Ok(true),
+        Err(e) => {
+            if e.kind() == ErrorKind::UnexpectedEof {
+                Ok(false)
+            } else {
+                Err(e)
+            }
+        }
+    }
 }
 
-// Reads a job of so many bytes.
-fn read_job(fd: i32, count: u32) -> Read {
+// Feeds a job so many bytes more; none where the file ends before.
+fn feed_next<R: Read>(input: &mut R, state: Job, want: usize) -> io::Result<Option<Job>>
+    requires { want ≤ 4096 }
+    ensures { IfOk result (λ fed. IfSome fed (FeedsNext (R.remaining input.old) (R.remaining input.new) state want)) }
+{
+    let mut buf = [0u8; 4096];
+    let full = read_full(input, &mut buf[..want])?;
+    if !full {
+        return Ok(None);
+    }
+    let next = job::feed(state, &buf[..want]);
+    Ok(Some(next))
+}
+
+// Reads a job of so many bytes, and finds its answer; none where the file ends before.
+fn read_job<R: Read>(input: &mut R, count: u32) -> io::Result<Option<Answer>>
+    ensures { IfOk result (λ found. IfSome found (TakesJob (R.remaining input.old) (R.remaining input.new) count)) }
+{
     let mut state = job::begin();
     let mut rest = count;
     while 0 < rest {
         let want = chunk(rest);
-        let mut buf = io::buffer();
-        let got = io::read_full(fd, &mut buf[..want]);
-        if got < want {
-            return Read {
-                state,
-                whole: false,
-            };
+        let fed = feed_next(input, state, want)?;
+        match fed {
+            None => return Ok(None),
+            Some(next) => state = next,
         }
-        let next = job::feed(state, &buf[..want]);
-        state = next;
         rest -= want as u32;
     }
-    Read { state, whole: true }
+    Ok(Some(job::finish(state)))
+}
+
+// Writes the line of an answer.
+fn write_line<W: Write>(out: &mut W, answer: Answer) -> io::Result<()>
+    ensures { OnOk result (Appends (W.contents out.old) (W.contents out.new) (line_of answer)) }
+{
+    let line = line::line(answer);
+    let bytes = line.bytes;
+    let length = line.length;
+    out.write_all(&bytes[..length])
 }
 
 // One job; false where the file ends.
-fn run_job(fd: i32) -> bool {
+fn run_job<R: Read, W: Write>(input: &mut R, out: &mut W) -> io::Result<bool>
+    ensures told { IfOk result (λ more. IsTrue more → TellsJob (R.remaining input.old) (R.remaining input.new) (W.contents out.old) (W.contents out.new)) }
+    ensures ended { IfOk result (λ more. IsFalse more → Keeps (W.contents out.old) (W.contents out.new)) }
+{
     let mut size = [0u8; 4];
-    let got = io::read_full(fd, &mut size);
-    if got < 4 {
-        return false;
+    let full = read_full(input, &mut size)?;
+    if !full {
+        return Ok(false);
     }
-    let read = read_job(fd, length_of(&size));
-    if !read.whole {
-        return false;
+    let found = read_job(input, length_of(&size))?;
+    match found {
+        None => Ok(false),
+        Some(answer) => {
+            write_line(out, answer)?;
+            Ok(true)
+        }
     }
-    let line = line::line(job::finish(read.state));
-    let bytes = line.bytes;
-    let length = line.length;
-    io::write_all(STDOUT_FILENO, &bytes[..length]);
-    true
 }
 
-fn main() {
-    let fd = os::open_read(b"jobs");
-    if fd < 0 {
-        os::fail(b"jobs");
-        return;
-    }
+fn main(rt: HostRuntime) -> io::Result<()> {
+    let mut file = match fs::open(&rt, "jobs") {
+        Ok(file) => file,
+        Err(e) => return eprintln!(rt; "jobs: {e}"),
+    };
     // A bound well above the number of jobs, so that the loop ends whatever the file holds.
-    let mut left = 100000u32;
-    while 0 < left && run_job(fd) {
-        left -= 1;
+    for _ in 0..100000u32 {
+        if !run_job(&mut file, &mut rt.stdout())? {
+            break;
+        }
     }
-    libc::close(fd);
+    Ok(())
 }

@@ -6,8 +6,9 @@
 ghost use Rattle.std.specs.Prelude.{◌≡◌, ◌++◌, ◌+◌, ◌*◌, ◌<◌, get_or};
 ghost use Rattle.vectors.specs.Monte as spec;
 
-use libc::STDOUT_FILENO;
 use sha256::Hashed;
+use std::io::{ErrorKind, Read, Write};
+use std::{fs, io};
 
 // What stands for a length after the last message.
 const END: usize = 65535;
@@ -30,48 +31,55 @@ fn length_of(b: &[u8; 2]) -> usize
     (wide(b[0]) + 256 * wide(b[1])) as usize
 }
 
-// A digest's line.
-fn print_digest(digest: [u8; 32]) {
-    let mut i = 0;
-    while i < 32 {
-        io::print_hex(STDOUT_FILENO, wide(digest[i]), 2);
-        i += 1;
+// Reads until the buffer is full; false where the file ends before.
+fn read_full<R: Read>(input: &mut R, buf: &mut [u8]) -> io::Result<bool> {
+    match input.read_exact(buf) {
+        Ok(()) => Ok(true),
+        Err(e) => {
+            if e.kind() == ErrorKind::UnexpectedEof {
+                Ok(false)
+            } else {
+                Err(e)
+            }
+        }
     }
-    io::write_all(STDOUT_FILENO, b"\n");
+}
+
+// A digest's line.
+fn print_digest<W: Write>(out: &mut W, digest: [u8; 32]) -> io::Result<()> {
+    for byte in &digest {
+        write!(out, "{byte:02x}")?;
+    }
+    writeln!(out)
 }
 
 // The line of a hash's answer: the digest, or the number of a refusal.
-fn print_hashed(h: Hashed) {
+fn print_hashed<W: Write>(out: &mut W, h: Hashed) -> io::Result<()> {
     let number = h.answer.number;
     if number != answer::OPEN {
-        io::write_all(STDOUT_FILENO, b"refused ");
-        io::print_decimal(STDOUT_FILENO, wide(number));
-        io::write_all(STDOUT_FILENO, b"\n");
-        return;
+        return writeln!(out, "refused {number}");
     }
     let digest = h.digest;
-    print_digest(digest);
+    print_digest(out, digest)
 }
 
 // The next message's line; false where the messages, or the file, end. Every length in 2 bytes fits the buffer, so that it is the hash that
 // refuses a message too long.
-fn run_message(fd: i32) -> bool {
+fn run_message<R: Read, W: Write>(input: &mut R, out: &mut W) -> io::Result<bool> {
     let mut size = [0u8; 2];
-    let got = io::read_full(fd, &mut size);
-    if got < 2 {
-        return false;
+    if !read_full(input, &mut size)? {
+        return Ok(false);
     }
     let len = length_of(&size);
     if len == END {
-        return false;
+        return Ok(false);
     }
-    let mut buf = io::large_buffer();
-    let filled = io::read_full(fd, &mut buf[..len]);
-    if filled < len {
-        return false;
+    let mut buf = [0u8; 65536];
+    if !read_full(input, &mut buf[..len])? {
+        return Ok(false);
     }
-    print_hashed(sha256::hash(&buf[..len]));
-    true
+    print_hashed(out, sha256::hash(&buf[..len]))?;
+    Ok(true)
 }
 
 // Byte i of three digests, end to end.
@@ -93,10 +101,8 @@ fn joined(a: [u8; 32], b: [u8; 32], c: [u8; 32]) -> [u8; 96]
     ensures { result ≡ a ++ (b ++ c) }
 {
     let mut m = [0u8; 96];
-    let mut i = 0;
-    while i < 96 {
+    for i in 0..96 {
         m[i] = joined_byte(a, b, c, i);
-        i += 1;
     }
     m
 }
@@ -108,46 +114,41 @@ fn checkpoint(seed: [u8; 32]) -> [u8; 32]
     let mut a = seed;
     let mut b = seed;
     let mut c = seed;
-    let mut i = 0usize;
-    while i < TURNS {
+    for _ in 0..TURNS {
         let m = joined(a, b, c);
         let h = sha256::hash(&m);
         let d = h.digest;
         a = b;
         b = c;
         c = d;
-        i += 1;
     }
     c
 }
 
 // The checkpoints' lines, each checkpoint the seed of the next.
-fn run_monte(fd: i32) {
+fn run_monte<R: Read, W: Write>(input: &mut R, out: &mut W) -> io::Result<()> {
     let mut seed = [0u8; 32];
-    let got = io::read_full(fd, &mut seed);
-    if got < 32 {
-        return;
+    if !read_full(input, &mut seed)? {
+        return Ok(());
     }
-    let mut i = 0usize;
-    while i < CHECKPOINTS {
+    for _ in 0..CHECKPOINTS {
         let next = checkpoint(seed);
-        print_digest(next);
+        print_digest(out, next)?;
         seed = next;
-        i += 1;
     }
+    Ok(())
 }
 
-fn main() {
-    let fd = os::open_read(b"messages");
-    if fd < 0 {
-        os::fail(b"messages");
-        return;
-    }
+fn main(rt: HostRuntime) -> io::Result<()> {
+    let mut file = match fs::open(&rt, "messages") {
+        Ok(file) => file,
+        Err(e) => return eprintln!(rt; "messages: {e}"),
+    };
     // A bound well above the number of messages, so that the loop ends whatever the file holds.
-    let mut left = 1000usize;
-    while 0 < left && run_message(fd) {
-        left -= 1;
+    for _ in 0..1000u32 {
+        if !run_message(&mut file, &mut rt.stdout())? {
+            break;
+        }
     }
-    run_monte(fd);
-    libc::close(fd);
+    run_monte(&mut file, &mut rt.stdout())
 }

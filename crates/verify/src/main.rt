@@ -2,8 +2,18 @@
 // leaves the job without a line.
 #![tactic(auto)]
 
-use job::Job;
-use libc::{STDERR_FILENO, STDOUT_FILENO};
+ghost use Rattle.std.specs.Prelude.{◌≡◌, IfOk, OnOk, IfSome};
+ghost use Rattle.std.specs.Io.{ReadsAtMost};
+ghost use Rattle.std.specs.Io.KnownBytes.{ReadConsumes, Appends};
+ghost use Rattle.job.specs.Job.{job_answer};
+ghost use Rattle.line.specs.Line.{line_of};
+
+use answer::Answer;
+use std::io::{ErrorKind, Read, Write};
+use std::{io, thread};
+
+// How many bytes a read asks for.
+const CHUNK: usize = 4096;
 
 // More reads than any job needs: each brings a byte, and a job is settled after 36 bytes, L more and one.
 const READS: u32 = 1000000;
@@ -12,87 +22,61 @@ const READS: u32 = 1000000;
 // seconds in which the processor is offered to others. After them the read has failed.
 const TRIES: u32 = 10000000;
 
-// What a read left: the job, whether there may be more to read, and whether the read failed.
-#[derive(Clone, Copy)]
-struct Turn {
-    state: Job,
-    more: bool,
-    failed: bool,
-}
-
 // Whether a read that failed with this error may succeed later: no byte is lost by trying it again.
-fn is_passing(error: i32) -> bool {
-    error == libc::EINTR || error == libc::EAGAIN
+fn is_passing(error: &io::Error) -> bool {
+    let kind = error.kind();
+    kind == ErrorKind::Interrupted || kind == ErrorKind::WouldBlock
 }
 
 // Reads until a read succeeds, or fails for good.
-fn read_again(buf: &mut [u8]) -> isize {
-    let mut left = TRIES;
-    while 0 < left {
-        let got = libc::read(0, buf);
-        if 0 <= got {
-            return got;
+fn read_again<R: Read>(input: &mut R, buf: &mut [u8]) -> io::Result<usize>
+    ensures bound { ReadsAtMost result buf.new }
+    ensures bytes { ReadConsumes (R.remaining input.old) (R.remaining input.new) result buf.new }
+{
+    for _ in 0..TRIES {
+        match input.read(buf) {
+            Ok(n) => return Ok(n),
+            Err(e) => {
+                if !is_passing(&e) {
+                    return Err(e);
+                }
+            }
         }
-        if !is_passing(os::errno()) {
-            return got;
-        }
-        libc::sched_yield();
-        left -= 1;
+        thread::yield_now();
     }
-    libc::read(0, buf)
+    input.read(buf)
 }
 
-// Reads, and feeds what came.
-fn read_some(state: Job) -> Turn {
-    let mut buf = io::buffer();
-    let got = read_again(&mut buf);
-    if got < 0 {
-        return Turn {
-            state,
-            more: false,
-            failed: true,
-        };
+// The answer to the job that is read. Nothing is read any more once no byte could change it.
+fn judge<R: Read>(input: &mut R) -> io::Result<Answer>
+    ensures { IfOk result (λ a. IfSome (R.remaining input.old) (λ bytes. a ≡ job_answer bytes)) }
+{
+    let mut state = job::begin();
+    for _ in 0..READS {
+        let mut buf = [0u8; CHUNK];
+        let n = read_again(input, &mut buf)?;
+        let next = job::feed(state, &buf[..n]);
+        state = next;
+        if n == 0 || job::settled(state) {
+            return Ok(job::finish(state));
+        }
     }
-    let n = io::count(got, &buf);
-    let next = job::feed(state, &buf[..n]);
-    if n == 0 {
-        return Turn {
-            state: next,
-            more: false,
-            failed: false,
-        };
-    }
-    let more = !job::settled(next);
-    Turn {
-        state: next,
-        more,
-        failed: false,
-    }
+    Err(io::Error::other("no end"))
 }
 
-// Writes the line of a job that ends here.
-fn write_line(state: Job) {
-    let line = line::line(job::finish(state));
+// Writes the line of an answer.
+fn write_line<W: Write>(out: &mut W, answer: Answer) -> io::Result<()>
+    ensures { OnOk result (Appends (W.contents out.old) (W.contents out.new) (line_of answer)) }
+{
+    let line = line::line(answer);
     let bytes = line.bytes;
     let length = line.length;
-    io::write_all(STDOUT_FILENO, &bytes[..length]);
+    out.write_all(&bytes[..length])
 }
 
-fn main() {
-    let mut state = job::begin();
-    let mut left = READS;
-    while 0 < left {
-        let t = read_some(state);
-        if t.failed {
-            os::fail(b"standard input");
-            return;
-        }
-        state = t.state;
-        if !t.more {
-            write_line(state);
-            return;
-        }
-        left -= 1;
+fn main(rt: HostRuntime) -> io::Result<()> {
+    match judge(&mut rt.stdin()) {
+        Ok(answer) => write_line(&mut rt.stdout(), answer),
+        Err(e) => eprintln!(rt; "standard input: {e}"),
     }
-    io::write_all(STDERR_FILENO, b"standard input: no end\n");
 }

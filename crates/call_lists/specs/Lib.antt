@@ -1,0 +1,2 @@
+-- Scripts, and what is told of them.
+pub mod Lists

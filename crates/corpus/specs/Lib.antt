@@ -1,0 +1,2 @@
+-- What is done with a job of the file.
+pub mod Jobs

@@ -1,0 +1,6 @@
+-- The reads that failed took no byte.
+use Rattle.std.specs.Io.KnownBytes.{Keeps}
+use Rattle.verify.proofs.read_again.Given as goal
+
+abbrev pub invariant-loop : goal.invariant-loop
+invariant-loop g l = Keeps (g.R.Read.remaining l.initial.input) (g.R.Read.remaining l.input)
