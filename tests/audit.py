@@ -565,7 +565,7 @@ def page(calls, edits):
     lines = [
         "# Wrong programs and wrong definitions",
         "",
-        "Each name is an edit, `crates/NAME/must-fail/EDIT.edit`. The gate makes it in a copy of its crate, and the prover must refuse the crate, because a fact no longer holds (`tests/edits.py` reads the log).",
+        "Each name is an edit, `crates/NAME/must-fail/EDIT.edit`. The gate makes it in a copy of its crate, and the prover must refuse the crate, because a fact no longer holds (`tests/edits.py` reads what was said of each).",
         "",
         f"There are {len(every)} edits. {sum(is_program(e.kinds) for _, _, e in every)} are wrong programs: they change code and leave every contract and definition as it is. {definitions} change a definition, {both} both, {contracts} a contract.",
         "",
@@ -592,7 +592,7 @@ def page(calls, edits):
 
 
 def check_wrong_programs(calls, edits):
-    """Two edits of the code at least for each public call, which leave contracts and definitions as they are. An edit may carry a walk by hand
+    """Two edits of the code at least for each public call, which leave contracts and definitions as they are. An edit may carry a proof
     along to the code that it changes."""
     for call in calls:
         if call.name.split("::")[0] in TESTS_ONLY:
@@ -656,7 +656,7 @@ def check_papers():
                 fault(paper.relative_to(ROOT), f"links to {name}, which is not there")
         text = re.sub(r"`[^`]*(?:NAME|FILE)[^`]*`", "", text)  # how a row is to be read
         for name in re.findall(r"`((?:crates|tests|bench|docs|bindings)/[\w./-]+|examples/[\w.-]+)`", text):
-            if not (ROOT / name).exists():
+            if not (ROOT / re.sub(r"/out/.*", "", name)).exists():  # of what a check makes, its crate
                 fault(paper.relative_to(ROOT), f"names {name}, which is not there")
         for crate, file, rest in re.findall(r"`(\w+)/((?:specs/)?\w+): ([^`]+)`", text):
             place = ROOT / "crates" / crate / (file if file.startswith("specs/") else f"proofs/{file}")
