@@ -59,7 +59,12 @@ CASES = [
     ("a second public struct Transcript", (FIELD, HEAD, "pub struct Transcript {}\n\n" + HEAD)),
     ("reader::piece_in_place: the contract does not pin what is left in roots", ("crates/reader/src/lib.rt", "replied result.answer result.core roots.new", "replied result.answer result.core challenges.new")),
     ("reader::piece_in_place: the left side is not the result", ("crates/reader/src/lib.rt", "replied result.answer result.core", "replied result.answer core")),
+    ("look_up::look_up: the left side is not the result", ("crates/look_up/src/lib.rt", "(result.answer ≡", "(result.answer.now ≡")),
+    ("buffer::put: the left side is not the result", (BUFFER, PUT, "    ensures { part.new ≡ spec.put buffer.old at part.now }")),
+    ("buffer::put: the right side speaks of the result", (BUFFER, PUT, "    ensures { buffer.new ≡ buffer.exit.now }")),
     # meaning
+    ("'spec' is a parameter, and a module", (BUFFER, "pub fn put(buffer: &mut [u8], at: usize,", "pub fn put(buffer: &mut [u8], spec: usize,")),
+    ("'length' is lib.ListN's here and Rattle.std.specs.Prelude's elsewhere", ("crates/calls/specs/Judged.antt", ", length}", "}"), ("crates/calls/specs/Judged.antt", "\nuse ", "\nuse lib.ListN.{length}\nuse ")),
     ("the symbol '≡' is not the library's", ("crates/fold/src/lib.rt", EQUAL, ""), ("crates/fold/src/lib.rt", BEFORE, "ghost use Rattle.fold.specs.Fold.{◌≡◌};\n" + BEFORE)),
     ("'≡' comes from nowhere", ("crates/fold/src/lib.rt", EQUAL, "")),
     ("'◌≤◌' of the library is imported under another name, '◌≡◌'", (FIELD, EQUAL, "◌≤◌ as ◌≡◌, ")),
