@@ -29,12 +29,13 @@ from functools import cache
 from pathlib import Path
 
 ROOT = Path(__file__).resolve().parent.parent
-LIBRARY = {"mathlib", "Prim", "native", "lib", "borrow"}
-PRELUDE = set("IsProp IsSet ⊥ absurd ¬_ Dec yes no Discrete Unit tt Id J Path".split())  # the library's, with no import
-LANGUAGE = set("λ . , ( ) { } ⌜ ⌝ × → :".split())  # the contract language's own signs
-WORDS = {"now", "entry", "exit", "tt"}  # its own words: a reference's value, at the call and at the return
+LIBRARY = {"mathlib", "Prim", "native", "lib", "borrow", "Rattle.std", "Rattle.core"}  # of Rattle's own, by crate
+PRELUDE = set("IsProp IsSet ⊥ absurd ¬◌ Dec yes no Discrete Unit tt Id J Path".split())  # the library's, with no import
+LANGUAGE = set("λ . , ( ) { } × → :".split())  # the contract language's own signs
+WORDS = {"result", "tt"}  # its own words
+LEFT = {"new", "exit"}  # behind a parameter: what the call leaves in it
 TERMS = set("+ - * / % ^ ∷ [] ++".split())  # the signs that a term may have; any other sign is no term's
-EQUALITY = ("mathlib.Core.Path", "_≡_")
+EQUALITY = ("Rattle.std.specs.Prelude", "◌≡◌")
 ASSEMBLES = {"replied", "outcome", "buffer"}  # records made of their arguments: an equation of one pins every argument
 OUTSIDE = set()  # public calls whose result no contract can pin: none
 BY_POWERS_OF_TWO = ["field", "felt", "fold"]  # their code, and what it calls, divides and takes remainders by nothing else (request 2026-03)
@@ -54,7 +55,7 @@ def fault(where, what):
 def crates():
     for line in (ROOT / "crates.txt").read_text().splitlines():
         if line and not line.startswith("#"):
-            yield line.split(":")[0]
+            yield line.split(":")[0].split()[0]
 
 
 TOKEN = re.compile(r'b"(?:[^"\\]|\\.)*"|"(?:[^"\\]|\\.)*"|b\'(?:[^\'\\]|\\.)[^\']*\'|//[^\n]*|/\*|\w+|\s+|->|=>|[<>=!]=|.', re.S)
@@ -91,6 +92,11 @@ class Call:
         self.requires, self.ensures, self.imports = requires, ensures, imports
 
 
+def root_of(path):
+    """Where a path begins: the crate's name is part of it."""
+    return ".".join(path.split(".")[: 2 if path.startswith("Rattle.") else 1])
+
+
 def imports_of(text, keyword, where=None):
     """name → (root, whole path, name there) for every `use` of the file; a module's alias ends in a dot."""
     found = {}
@@ -101,7 +107,7 @@ def imports_of(text, keyword, where=None):
                 fault(where, f"an import that the audit cannot read: use{m.group(1)}")
             continue
         path, names, alias = line.groups()
-        root = path.split(".")[0]
+        root = root_of(path)
         if names:
             entries = [((n.strip().split(" as ") * 2)[1].strip(), n.strip().split(" as ")[0].strip()) for n in names.split(",")]
         else:
@@ -148,13 +154,13 @@ def functions(text, crate, module, public_module, where=None):
         m = re.compile(r"\s*(?:->\s*([^{}]*?))?\s*(?=\b(?:requires|ensures)\b|\{)").match(text, end)
         result, end = (m.group(1) or "").strip(), m.end()
         while not text.startswith("{", end):
-            m = re.compile(r"(requires|ensures)(?:\s+\w+)?\s*\{").match(text, end)
+            m = re.compile(r"(requires|ensures)(\*?)(?:\s+\w+)?\s*\{").match(text, end)
             if not m:
                 if where:
                     fault(where, f"a contract that the audit cannot read: {name}")
                 break
             close = balanced(text, m.end() - 1, "{", "}")
-            clauses[m.group(1)].append(" ".join(text[m.end() : close - 1].split()))
+            clauses[m.group(1)].append(m.group(2) + " ".join(text[m.end() : close - 1].split()))
             end = close + len(text[close:]) - len(text[close:].lstrip())
         whole = "::".join([crate] + ([module] if module else []) + ([owners[i]] if owners[i] else []) + [name])
         yield Call(whole, exported or (public and public_module), params, result, clauses["requires"], clauses["ensures"], imports)
@@ -206,6 +212,7 @@ def check_within():
     """A crate of one part is named by that part alone."""
     for line in (ROOT / "crates.txt").read_text().splitlines():
         crate, _, named = line.partition(":")
+        crate = " ".join(crate.split()[:1])  # without what kind of crate it is
         for inner in set(named.split()) & set(WITHIN):
             if not line.startswith("#") and crate not in WITHIN[inner]:
                 fault("crates.txt", f"{crate} names {inner}, which is for {', '.join(sorted(WITHIN[inner]))} alone")
@@ -219,7 +226,7 @@ def structs():
                 if name in found:
                     fault(path.relative_to(ROOT), f"a second public struct {name}")
                 held = [f.replace("pub", "").partition(":") for f in fields.split(",") if f.strip()]
-                found[name] = {f.strip() for f, _, _ in held} | {f"{f.strip()}.ptr" for f, _, kind in held if kind.strip().startswith("&")}
+                found[name] = {f.strip() for f, _, _ in held} | {f"{f.strip()}.ref_ptr" for f, _, kind in held if kind.strip().startswith("&")}
     return found
 
 
@@ -295,41 +302,38 @@ def show(items):
     return " ".join(f"({show(x)})" if isinstance(x, list) else x for x in items)
 
 
-def pinned_by(left, r):
-    """What a left side pins: "result", ".field" of it, ".field.ptr" for where a reference in it points, or a lent name with or without a field; None if
-    it is of no such form."""
+def pinned_by(left, call, fields):
+    """What a left side pins: "result", ".field" of it, ".field.ref_ptr" for where a reference in it points, or a lent name with or without a field; None
+    if it is of no such form. `fields` are those of the result."""
     while len(left) == 1 and isinstance(left[0], list):
         left = left[0]
-    field = lambda x: isinstance(x, str) and re.fullmatch(r"\.\w+", x)
-    if r != "_" and left == [r]:
-        return ["result"]
-    if r != "_" and len(left) == 2 and left[0] == r and field(left[1]):
-        return [left[1]]
-    if r != "_" and len(left) == 3 and left[0] == r and field(left[1]) and left[2] == ".ptr":
-        return [left[1] + ".ptr"]
-    if len(left) in (2, 3) and left[0] == "now" and isinstance(left[1], list) and len(left[1]) == 2:
-        name, end = left[1]
-        if end == ".exit" and (len(left) == 2 or field(left[2])):
-            return [name + (left[2] if len(left) == 3 else "")]
-        if r != "_" and name == r and field(end) and len(left) == 2:
-            return [end]
+    if len(left) == 1:
+        name, *path = left[0].split(".")
+        if name == "result":
+            # `now` is what a reference points at, and of anything else a field that has this name
+            if len(path) == 2 and path[1] == "now" and f"{path[0]}.ref_ptr" in fields:
+                return ["." + path[0]]
+            if len(path) < 2 or len(path) == 2 and path[1] == "ref_ptr":
+                return ["".join("." + field for field in path) or "result"]
+        if is_lent(parameters(call).get(name, "")) and path[:1] == ["new"] and len(path) < 3:
+            return [".".join([name, *path[1:]])]
+        return None
     if left and left[0] in ASSEMBLES:
-        inner = [pinned_by([x], r) for x in left[1:]]
+        inner = [pinned_by([x], call, fields) for x in left[1:]]
         return None if None in inner else [p for found in inner for p in found]
     return None
 
 
 def check_tight(call, fields_of):
     pinned = set()
+    kind = (call.result or "").split("::")[-1].split("<")[0]
     for clause in call.ensures:
-        m = re.fullmatch(r"λ (\w+)\. ⌜ (.*) ⌝", clause)
-        if not m or re.search("[⌜⌝]", m.group(2)):
+        if clause.startswith("*"):
             fault(call.name, f"a contract that is no fact about the result: {clause}")
             return
-        r = m.group(1)
-        if r in parameters(call):
+        if "result" in parameters(call):
             fault(call.name, f"the result has a parameter's name: {clause}")
-        for items in conjuncts(tree(m.group(2))):
+        for items in conjuncts(tree(clause)):
             fact = show(items)
             sides = split_at(items, "≡")
             if len(sides) != 2:
@@ -337,18 +341,17 @@ def check_tight(call, fields_of):
                 continue
             left, right = sides
             inside = list(leaves(right))
-            if (r != "_" and r in inside) or ".exit" in inside:
+            if any(x.split(".")[0] == "result" or LEFT & set(x.split(".")[1:]) for x in inside):
                 fault(call.name, f"the right side speaks of the result: {fact}")
             signs = [x for x in inside if not re.match(r"[\w.]", x) and x not in TERMS] + [x for x in inside if x.startswith("λ")]
             if signs:
                 fault(call.name, f"not an equation of a term: {signs[0]} in {fact}")
-            got = pinned_by(left, r)
+            got = pinned_by(left, call, fields_of.get(kind, set()))
             if got is None:
                 fault(call.name, f"the left side is not the result, nor what is left: {fact}")
             else:
                 pinned |= set(got)
     if call.result and "result" not in pinned:
-        kind = call.result.split("::")[-1].split("<")[0]
         missing = fields_of.get(kind, {"result"}) - {f[1:] for f in pinned if f.startswith(".")}
         if missing:
             fault(call.name, f"the contract does not pin {', '.join(sorted(missing))} of {call.result}")
@@ -361,7 +364,8 @@ def check_tight(call, fields_of):
 
 
 def is_specs(path):
-    return bool(re.match(r"Rattle·\w+(·specs)?\.specs\.", path + "."))
+    """Whether a path leads to a specs file of this repository."""
+    return bool(re.match(r"Rattle\.\w+\.specs\.", path + ".")) and path.split(".")[1] in set(crates())
 
 
 def check_meaning(call):
@@ -369,17 +373,19 @@ def check_meaning(call):
     for clause in call.requires + call.ensures:
         bound = set(re.findall(r"λ (\w+)\.", clause))
         text = re.sub(r"λ \w+\.", " ", clause)
-        text = re.sub(r" \.[\w-]+", " ", text)  # fields
+        text = re.sub(r"(?<=\))(?:\.[\w-]+)+", " ", text)  # fields of what stands in brackets
         for token in re.findall(r"[^\s(){},]+", text):
-            if (token in WORDS or token in bound) and token in call.imports:
-                fault(call.name, f"'{token}' is a word of contracts, and imported")
-            if token in LANGUAGE or token in known or token in bound or re.fullmatch(r"0x[0-9a-f]+|\d+", token):
+            head = token.split(".")[0]  # what follows is a field, or a name of a module
+            if (head in WORDS or head in bound) and (head in call.imports or head + "." in call.imports):
+                fault(call.name, f"'{head}' is a word of contracts, and imported")
+            if head in parameters(call) and head + "." in call.imports and token.split(".")[1:2] not in (["now"], ["old"], ["new"]):
+                fault(call.name, f"'{head}' is a parameter, and a module")
+            if token in LANGUAGE or head in known or head in bound or re.fullmatch(r"0x[0-9a-f]+|\d+", token):
                 continue
             symbol = not re.match(r"[A-Za-z]", token)
-            head = token.split(".")[0] + "." if "." in token else None
-            got = call.imports.get(f"_{token}_") or call.imports.get(token) or (call.imports.get(head) if head else None)
-            if not got and token.startswith("Rattle·"):
-                got = ("Rattle·", token, token)
+            got = call.imports.get(f"◌{token}◌") or call.imports.get(token) or (call.imports.get(head + ".") or call.imports.get(head) if head else None)
+            if not got and token.startswith("Rattle."):
+                got = (root_of(token), token, token)
             if not got:
                 fault(call.name, f"'{token}' comes from nowhere")
             elif symbol and got[0] not in LIBRARY:
@@ -402,7 +408,7 @@ def check_names():
             if root in LIBRARY and not name.endswith("."):
                 if library.setdefault(name, place) != place:
                     fault(path.relative_to(ROOT), f"'{name}' is {place}'s here and {library[name]}'s elsewhere")
-    taken = {n.strip("_") for n in library} | PRELUDE
+    taken = {n.strip("◌") for n in library} | PRELUDE
     for path, found in uses.items():
         for name, (root, place, _) in found.items():
             if root not in LIBRARY and (name in library or name in PRELUDE or name.rstrip(".") in LIBRARY):
@@ -414,8 +420,9 @@ def check_names():
         code = "\n".join(line for line in text.splitlines() if not re.match(r"use\b", line))
         for line in re.findall(r"^.*(?<![\w-])(?:use|open|package)(?![\w-]).*$|^.*\{-.*$", code, re.M):
             fault(where, f"a line that the audit cannot read: {line.strip()}")
-        here = {n.strip("_") for n, (root, _, _) in uses[path].items() if root in LIBRARY} | (PRELUDE & {"⊥", "absurd", "Unit", "tt", "Path"})
-        for token in set(re.findall(r"[^\s(){};,|.]+", re.sub(r"(?<=[\s({])\.[\w-]+", " ", code))):
+        here = {n.strip("◌") for n, (root, _, _) in uses[path].items() if root in LIBRARY} | (PRELUDE & {"⊥", "absurd", "Unit", "tt", "Path"})
+        fieldless = re.sub(r"(?<=[\w')])\.[\w-]+", " ", re.sub(r"(λ [^.()]*)\.", r"\1 . ", code))  # a binder's point begins no field
+        for token in set(re.findall(r"[^\s(){};,|.]+", fieldless)):
             if token in taken and token not in here:
                 fault(where, f"defines '{token}', a name of the library")
         bound = set(re.findall(r"λ ([\w-]+)\.|\blet ([\w-]+)\b", code)) | set(re.findall(r"[({]([\w -]+) : ()", code))
@@ -423,7 +430,7 @@ def check_names():
         names = {n for pair in bound for words in pair for n in words.split()}
         names |= {n for d in declared if not re.search("[({→]", d) for n in d.split()[-1:]}
         for name in names:
-            if name.strip("_") in taken:
+            if name.strip("◌") in taken:
                 fault(where, f"defines '{name}', a name of the library")
         if re.search(r"^\s*axiom\b", text, re.M):
             fault(where, "declares an axiom")
@@ -439,7 +446,7 @@ def check_names():
 def without_contracts(text):
     """The code alone: no comments, no imports of definitions, no contracts."""
     text = re.sub(r"^ *ghost use [^;]*;", "", bare(text), flags=re.M)
-    while m := re.search(r"\b(?:requires|ensures)(?:\s+\w+)?\s*\{", text):
+    while m := re.search(r"\b(?:requires|ensures)\*?(?:\s+\w+)?\s*\{", text):
         text = text[: m.start()] + text[balanced(text, m.end() - 1, "{", "}") :]
     return text.split()
 
@@ -558,7 +565,7 @@ def page(calls, edits):
     lines = [
         "# Wrong programs and wrong definitions",
         "",
-        "Each name is an edit, `crates/NAME/must-fail/EDIT.edit`. The gate makes it in a copy of its crate, and the prover must refuse the crate, because a fact no longer holds (`tests/edits.py` reads the log).",
+        "Each name is an edit, `crates/NAME/must-fail/EDIT.edit`. The gate makes it in a copy of its crate, and the prover must refuse the crate, because a fact no longer holds (`tests/edits.py` reads what was said of each).",
         "",
         f"There are {len(every)} edits. {sum(is_program(e.kinds) for _, _, e in every)} are wrong programs: they change code and leave every contract and definition as it is. {definitions} change a definition, {both} both, {contracts} a contract.",
         "",
@@ -585,7 +592,7 @@ def page(calls, edits):
 
 
 def check_wrong_programs(calls, edits):
-    """Two edits of the code at least for each public call, which leave contracts and definitions as they are. An edit may carry a walk by hand
+    """Two edits of the code at least for each public call, which leave contracts and definitions as they are. An edit may carry a proof
     along to the code that it changes."""
     for call in calls:
         if call.name.split("::")[0] in TESTS_ONLY:
@@ -649,7 +656,7 @@ def check_papers():
                 fault(paper.relative_to(ROOT), f"links to {name}, which is not there")
         text = re.sub(r"`[^`]*(?:NAME|FILE)[^`]*`", "", text)  # how a row is to be read
         for name in re.findall(r"`((?:crates|tests|bench|docs|bindings)/[\w./-]+|examples/[\w.-]+)`", text):
-            if not (ROOT / name).exists():
+            if not (ROOT / re.sub(r"/out/.*", "", name)).exists():  # of what a check makes, its crate
                 fault(paper.relative_to(ROOT), f"names {name}, which is not there")
         for crate, file, rest in re.findall(r"`(\w+)/((?:specs/)?\w+): ([^`]+)`", text):
             place = ROOT / "crates" / crate / (file if file.startswith("specs/") else f"proofs/{file}")

@@ -11,26 +11,27 @@ ROOT = Path(__file__).resolve().parent.parent
 FIELD = "crates/field/src/lib.rt"
 BUFFER = "crates/buffer/src/lib.rt"
 HEAD = "// A product and a number, reduced together.\n"
-SUM = "⌜ r ≡ addMod a b ⌝"
-PATH = "ghost use mathlib.Core.Path.{_≡_};"
-PUT = "    ensures { λ _. ⌜ now (buffer .exit) ≡ spec.put (now (buffer .entry)) at (now (part .entry)) ⌝ }"
+SUM = "result ≡ add_mod a b"
+EQUAL = "◌≡◌, "  # among the names that a file imports of the library
+BEFORE = "ghost use Rattle."  # the first import of a file
+PUT = "    ensures { buffer.new ≡ spec.put buffer.old at part.now }"
 # a function that is public and asks for something, behind the words that make it public
-ASKS = "(a: u32) -> u32\n    requires { ⌜ a < 5 ⌝ }\n{\n    a + 1\n}\n\n"
-SOURCE = "ghost use Prim.Native.Nat.{_<_};\npub fn evil" + ASKS
+ASKS = "(a: u32) -> u32\n    requires { a < 5 }\n{\n    a + 1\n}\n\n"
+SOURCE = "ghost use Rattle.std.specs.Prelude.{◌<◌};\npub fn evil" + ASKS
 EDIT = "crates/fold/must-fail/scale_adds_one.edit"
 TWICE = "old: field::add(x, x)\nnew: field::add(x, 1)"
 
 # what the audit must say; then the changes: file, old text, new text (a file that is not there is made of the new text)
 CASES = [
     # total
-    ("params::height: has no ensures", ("crates/params/src/lib.rt", "    ensures { λ r. ⌜ r ≡ spec.height p layer ⌝ }\n", "")),
-    ("field::add: has a requires", (FIELD, f"    ensures {{ λ r. {SUM} }}", f"    requires {{ ⌜ a < p ⌝ }}\n    ensures {{ λ r. {SUM} }}")),
-    ("field::add: has a requires", (FIELD, f"    ensures {{ λ r. {SUM} }}", f"    requires small {{ ⌜ a < p ⌝ }}\n    ensures {{ λ r. {SUM} }}")),
+    ("params::height: has no ensures", ("crates/params/src/lib.rt", "    ensures { result ≡ spec.height p layer }\n", "")),
+    ("field::add: has a requires", (FIELD, f"    ensures {{ {SUM} }}", f"    requires {{ a < p }}\n    ensures {{ {SUM} }}")),
+    ("field::add: has a requires", (FIELD, f"    ensures {{ {SUM} }}", f"    requires small {{ a < p }}\n    ensures {{ {SUM} }}")),
     ("a function that the audit cannot read: pub fn evil", (FIELD, HEAD, "pub  fn evil" + ASKS + HEAD)),
     ("a function that the audit cannot read: pub fn evil", (FIELD, HEAD, "pub fn\nevil" + ASKS + HEAD)),
     ("a function that the audit cannot read: pub fn evil", (FIELD, HEAD, "pub\nfn evil" + ASKS + HEAD)),
     ("field::evil: has a requires", (FIELD, HEAD, "const HERE: u32 = 0; pub fn evil" + ASKS + HEAD)),
-    ('a function that the audit cannot read: pub extern "C" fn evil', ("crates/exports/src/lib.rt", "#[no_mangle]\n", '#[no_mangle]\npub extern "C"  fn evil' + ASKS + "#[no_mangle]\n")),
+    ('a function that the audit cannot read: pub extern "C" fn evil', ("crates/exports/src/lib.rt", "#[unsafe(no_mangle)]\n", '#[unsafe(no_mangle)]\npub extern "C"  fn evil' + ASKS + "#[unsafe(no_mangle)]\n")),
     ("'pub ('", (FIELD, HEAD, "pub(crate) fn evil" + ASKS + HEAD)),
     ("'pub use'", (FIELD, HEAD, "mod hidden;\npub use hidden::evil;\n\n" + HEAD), ("crates/field/src/hidden.rt", None, SOURCE)),
     ("a module that the audit does not read", (FIELD, HEAD, "pub mod outer;\n\n" + HEAD), ("crates/field/src/outer.rt", None, "pub mod deeper;\n"), ("crates/field/src/outer/deeper.rt", None, SOURCE)),
@@ -39,42 +40,47 @@ CASES = [
     ("a comment between /* and */", (FIELD, HEAD, "/* \" */ pub fn evil" + ASKS + "/* \" */\n" + HEAD)),
     ("crates.txt: verdict names reader_items, which is for reader, reader_pieces, reader_queries alone", ("crates.txt", "\nverdict: ", "\nverdict: reader_items ")),
     # tight
-    ("field::add: not an equation", (FIELD, SUM, "⌜ r < p ⌝")),
-    ("field::add: the right side speaks of the result", (FIELD, SUM, "⌜ r ≡ r % p ⌝")),
-    ("field::add: the left side is not the result, nor what is left", (FIELD, SUM, "⌜ r % p ≡ addMod a b ⌝")),
-    ("field::add: the left side is not the result, nor what is left", (FIELD, SUM, "⌜ (r ≡ addMod a b) × (a ≡ a) ⌝")),
-    ("field::add: not an equation", (FIELD, SUM, "⌜ (r ≡ addMod a b) ⊎ (a ≡ a) ⌝"), (FIELD, PATH, PATH + "\nghost use mathlib.Core.Logic.{_⊎_};")),
-    ("field::add: not an equation", (FIELD, SUM, "⌜ ((r ≡ addMod a b) → (a ≡ a)) ⌝")),
-    ("field::add: not an equation of a term: →", (FIELD, SUM, "⌜ r ≡ addMod a b → b ⌝")),
-    ("field::add: a contract that is no fact", (FIELD, SUM, SUM + " ∨ₛ ⌜ a ≡ a ⌝")),
-    ("field::add: not an equation", (FIELD, SUM, "⌜ ∃ (λ y. r ≡ y) ⌝"), (FIELD, PATH, PATH + "\nghost use mathlib.Core.Logic.{∃};")),
-    ("does not pin what is left in out", ("crates/test_exports/src/leaves.rt", "    ensures { λ _. ⌜ now (out .exit) ≡ hashed (now (message .entry)) .digest ⌝ }\n", "")),
-    ("buffer::put: the right side speaks of the result", (BUFFER, PUT, "    ensures { λ _. ⌜ now (buffer .exit) ≡ now (buffer .exit) ⌝ }")),
-    ("buffer::put: the left side is not the result", (BUFFER, PUT, "    ensures { λ _. ⌜ length (now (buffer .exit)) ≡ length (now (buffer .entry)) ⌝ }"), (BUFFER, PATH, PATH + "\nghost use lib.ListN.{length};")),
-    ("buffer::put: the contract does not pin what is left in buffer", (BUFFER, "pub fn put(buffer: &mut [u8], at: usize, part: &[u8])", "pub fn put<'a>(buffer: &'a mut [u8], at: usize, part: &[u8]) -> usize"), (BUFFER, PUT, "    ensures { λ r. ⌜ r ≡ at ⌝ }")),
-    ("look_up::look_up: the contract does not pin part.ptr of Found", ("crates/look_up/src/lib.rt", " × (r .part .ptr ≡ spec.lookUpPlace p (proof .entry .ptr) (now (proof .entry)) query layer)", "")),
-    ("look_up::look_up: the contract does not pin part of Found", ("crates/look_up/src/lib.rt", " × (now (r .part) ≡ spec.lookUpPart p (now (proof .entry)) query layer)", "")),
+    ("field::add: not an equation", (FIELD, SUM, "result < p")),
+    ("field::add: the right side speaks of the result", (FIELD, SUM, "result ≡ result % p")),
+    ("field::add: the left side is not the result, nor what is left", (FIELD, SUM, "result % p ≡ add_mod a b")),
+    ("field::add: the left side is not the result, nor what is left", (FIELD, SUM, "(result ≡ add_mod a b) × (a ≡ a)")),
+    ("field::add: not an equation", (FIELD, SUM, "(result ≡ add_mod a b) ⊎ (a ≡ a)"), (FIELD, EQUAL, EQUAL + "◌⊎◌, ")),
+    ("field::add: not an equation", (FIELD, SUM, "((result ≡ add_mod a b) → (a ≡ a))")),
+    ("field::add: not an equation of a term: →", (FIELD, SUM, "result ≡ add_mod a b → b")),
+    ("field::add: a contract that is no fact", (FIELD, "ensures { " + SUM, "ensures* { fact " + SUM)),
+    ("field::add: not an equation", (FIELD, SUM, "∃ (λ y. result ≡ y)"), (FIELD, BEFORE, "ghost use mathlib.Core.Logic.{∃};\n" + BEFORE)),
+    ("does not pin what is left in out", ("crates/test_exports/src/leaves.rt", "    ensures out_after { out.new ≡ (hashed message.now).digest }\n", "")),
+    ("buffer::put: the right side speaks of the result", (BUFFER, PUT, "    ensures { buffer.new ≡ buffer.new }")),
+    ("buffer::put: the left side is not the result", (BUFFER, PUT, "    ensures { length buffer.new ≡ length buffer.old }")),
+    ("buffer::put: the contract does not pin what is left in buffer", (BUFFER, "pub fn put(buffer: &mut [u8], at: usize, part: &[u8])", "pub fn put<'a>(buffer: &'a mut [u8], at: usize, part: &[u8]) -> usize"), (BUFFER, PUT, "    ensures { result ≡ at }")),
+    ("look_up::look_up: the contract does not pin part.ref_ptr of Found", ("crates/look_up/src/lib.rt", " × (result.part.ref_ptr ≡ spec.look_up_place p proof.entry.ref_ptr proof.now query layer)", "")),
+    ("look_up::look_up: the contract does not pin part of Found", ("crates/look_up/src/lib.rt", " × (result.part.now ≡ spec.look_up_part p proof.now query layer)", "")),
     ("does not pin count of Transcript", ("crates/transcript/src/lib.rt", "    pub state: [u8; 32],\n", "    pub state: [u8; 32],\n    pub count: u32,\n")),
     ("a second public struct Transcript", (FIELD, HEAD, "pub struct Transcript {}\n\n" + HEAD)),
-    ("reader::piece_in_place: the contract does not pin what is left in roots", ("crates/reader/src/lib.rt", "replied (r .answer) (r .core) (now (roots .exit))", "replied (r .answer) (r .core) (now (challenges .exit))")),
-    ("reader::piece_in_place: the left side is not the result", ("crates/reader/src/lib.rt", "replied (r .answer) (r .core)", "replied (r .answer) core")),
+    ("reader::piece_in_place: the contract does not pin what is left in roots", ("crates/reader/src/lib.rt", "replied result.answer result.core roots.new", "replied result.answer result.core challenges.new")),
+    ("reader::piece_in_place: the left side is not the result", ("crates/reader/src/lib.rt", "replied result.answer result.core", "replied result.answer core")),
+    ("look_up::look_up: the left side is not the result", ("crates/look_up/src/lib.rt", "(result.answer ≡", "(result.answer.now ≡")),
+    ("buffer::put: the left side is not the result", (BUFFER, PUT, "    ensures { part.new ≡ spec.put buffer.old at part.now }")),
+    ("buffer::put: the right side speaks of the result", (BUFFER, PUT, "    ensures { buffer.new ≡ buffer.exit.now }")),
     # meaning
-    ("the symbol '≡' is not the library's", ("crates/fold/src/lib.rt", PATH, "ghost use Rattle·fold·specs.specs.Fold.{_≡_};")),
-    ("'≡' comes from nowhere", ("crates/fold/src/lib.rt", PATH, "")),
-    ("'_≤_' of the library is imported under another name, '_≡_'", (FIELD, PATH, "ghost use Prim.Native.Nat.{_≤_ as _≡_};")),
-    ("'≡' is not equality", (FIELD, PATH, "ghost use Prim.Native.Nat.{_≡_};")),
-    ("'_*_' of the library is imported under another name, '_+_'", (FIELD, "ghost use Prim.Native.Nat.{_+_,", "ghost use Prim.Native.Nat.{_*_ as _+_,")),
-    ("'_*_' of the library is imported under another name, '_+_'", ("crates/params/specs/Parameters.antt", "_+_", "_*_ as _+_")),
-    ("an import that the audit cannot read", (FIELD, HEAD, "fn inner() {\n    ghost use Prim.Native.Nat.{_≡_};\n}\n" + HEAD)),
-    ("'_≡_' is imported twice", (FIELD, PATH, PATH + "\nghost use Rattle·field·specs.specs.Modular.{_≡_};")),
-    ("'now' is a word of contracts, and imported", (BUFFER, PATH, PATH + "\nghost use Rattle·buffer·specs.specs.Buffer.{now};")),
+    ("'spec' is a parameter, and a module", (BUFFER, "pub fn put(buffer: &mut [u8], at: usize,", "pub fn put(buffer: &mut [u8], spec: usize,")),
+    ("'length' is lib.ListN's here and Rattle.std.specs.Prelude's elsewhere", ("crates/calls/specs/Judged.antt", ", length}", "}"), ("crates/calls/specs/Judged.antt", "\nuse ", "\nuse lib.ListN.{length}\nuse ")),
+    ("the symbol '≡' is not the library's", ("crates/fold/src/lib.rt", EQUAL, ""), ("crates/fold/src/lib.rt", BEFORE, "ghost use Rattle.fold.specs.Fold.{◌≡◌};\n" + BEFORE)),
+    ("'≡' comes from nowhere", ("crates/fold/src/lib.rt", EQUAL, "")),
+    ("'◌≤◌' of the library is imported under another name, '◌≡◌'", (FIELD, EQUAL, "◌≤◌ as ◌≡◌, ")),
+    ("'≡' is not equality", (FIELD, EQUAL, ""), (FIELD, BEFORE, "ghost use Prim.Native.Nat.{◌≡◌};\n" + BEFORE)),
+    ("'◌*◌' of the library is imported under another name, '◌+◌'", (FIELD, "◌+◌, ", "◌*◌ as ◌+◌, ")),
+    ("'◌*◌' of the library is imported under another name, '◌+◌'", ("crates/params/specs/Parameters.antt", "◌+◌", "◌*◌ as ◌+◌")),
+    ("an import that the audit cannot read", (FIELD, HEAD, "fn inner() {\n    ghost use Rattle.std.specs.Prelude.{◌≡◌};\n}\n" + HEAD)),
+    ("'◌≡◌' is imported twice", (FIELD, BEFORE, "ghost use Rattle.field.specs.Modular.{◌≡◌};\n" + BEFORE)),
+    ("'result' is a word of contracts, and imported", (FIELD, BEFORE, "ghost use Rattle.field.specs.Modular.{result};\n" + BEFORE)),
     ("defines 'length', a name of the library", ("crates/fold/specs/Fold.antt", "-- 2·x\n", "abbrev pub length : ℕ → ℕ\nlength x = x\n\n-- 2·x\n")),
     ("defines 'length', a name of the library", ("crates/fold/specs/Fold.antt", "-- 2·x\n", "length : ℕ → ℕ\nlength x = x\n\n-- 2·x\n")),
     ("defines 'take', a name of the library", ("crates/message/specs/Bytes.antt", "part i n xs = take n (drop i xs)", "part i n xs = (λ take. take n xs) (λ i xs. xs)")),
-    ("also a name of the library", ("crates/fold/specs/Fold.antt", "use Rattle·field.specs.Modular.{", "use Rattle·field.specs.Modular.{negMod as length, ")),
-    ("a line that the audit cannot read", ("crates/fold/specs/Fold.antt", "-- 2·x\n", "open Felt x using (value as _+_)\n\n-- 2·x\n")),
-    ("a definition rests on Rattle·message.proofs.Bytes, which is no specs file", ("crates/demands/specs/Demands.antt", "use Rattle·message.specs.Bytes.", "use Rattle·message.proofs.Bytes.")),
-    ("an axiom", ("crates/field/proofs/Laws.antt", "\npub mulMod-lt", "\naxiom pub mulMod-none : Unit\n\npub mulMod-lt")),
+    ("also a name of the library", ("crates/fold/specs/Fold.antt", "use Rattle.field.specs.Modular.{", "use Rattle.field.specs.Modular.{neg_mod as length, ")),
+    ("a line that the audit cannot read", ("crates/fold/specs/Fold.antt", "-- 2·x\n", "open Felt x using (value as ◌+◌)\n\n-- 2·x\n")),
+    ("a definition rests on Rattle.message.proofs.Bytes, which is no specs file", ("crates/demands/specs/Demands.antt", "use Rattle.message.specs.Bytes.", "use Rattle.message.proofs.Bytes.")),
+    ("an axiom", ("crates/field/proofs/Laws.antt", "\npub mul_mod_lt", "\naxiom pub mul_mod_none : Unit\n\npub mul_mod_lt")),
     # divisions
     ("field/src/lib.rt: divides by 3221225473, not by a power of two", (FIELD, "    correct(reduce_lazily(a))\n", "    (a % 3221225473) as u32\n")),
     ("fold/src/lib.rt: divides by Felt::MODULUS, not by a power of two", ("crates/fold/src/lib.rt", "    field::add(x, x)\n", "    2 * x % Felt::MODULUS\n")),
@@ -90,12 +96,12 @@ CASES = [
     ("a wrong program, and of no call", (EDIT, "# of fold::scale\n", "")),
     ("is of fold::scales, which is no public call", (EDIT, "# of fold::scale\n", "# of fold::scales\n")),
     ("fold::scale: has 1 wrong programs", (EDIT, "# of fold::scale\n", "# of fold::folded\n")),
-    ("fold::scale: has 1 wrong programs", (EDIT, TWICE, "old: ⌜ r ≡ spec.scale x ⌝\nnew: ⌜ r ≡ x ⌝")),
+    ("fold::scale: has 1 wrong programs", (EDIT, TWICE, "old: { result ≡ spec.scale x }\nnew: { result ≡ x }")),
     ("fold::scale: has 1 wrong programs", (EDIT, "file: ", "file: specs/Fold.antt\nold: -- 2·x\nnew: -- x·2\nfile: ")),
     ("changes neither code nor a statement", (EDIT, TWICE, "old: // What the scale times\nnew: // What the scale")),
     ("docs/WRONG-PROGRAMS.md: is not what the edits say", ("docs/WRONG-PROGRAMS.md", "There are ", "There are 9")),
     ("docs/WRONG-PROGRAMS.md: is not what the edits say", ("crates/fold/must-fail/one_more.edit", None, "# of fold::scale\nfile: src/lib.rt\n" + TWICE + "\n")),
-    ("fold/FoldLaws has no fold-low", ("docs/PROMISES.md", "FoldLaws: fold-law`", "FoldLaws: fold-low`")),
+    ("fold/FoldLaws has no fold_low", ("docs/PROMISES.md", "FoldLaws: fold_law`", "FoldLaws: fold_low`")),
 ]
 
 
@@ -103,7 +109,7 @@ def main():
     missed = 0
     with tempfile.TemporaryDirectory() as folder:
         copy = Path(folder) / "copy"
-        shutil.copytree(ROOT, copy, ignore=shutil.ignore_patterns("target", ".git"))
+        shutil.copytree(ROOT, copy, ignore=shutil.ignore_patterns("target", "out", ".git"))
         spec = importlib.util.spec_from_file_location("audit", copy / "tests" / "audit.py")
         audit = importlib.util.module_from_spec(spec)
         spec.loader.exec_module(audit)

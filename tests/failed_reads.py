@@ -1,7 +1,7 @@
 #!/usr/bin/env python3
 """Runs the program on inputs that cannot be read to their end: no line may be written, and an input that comes late is judged whole.
 
-Usage: tests/failed_reads.py     (the program is target/bin/verify)
+Usage: tests/failed_reads.py     (the program is crates/verify/out/verify)
 """
 import fcntl
 import os
@@ -11,7 +11,7 @@ import time
 from pathlib import Path
 
 ROOT = Path(__file__).resolve().parent.parent
-PROGRAM = ROOT / "target" / "bin" / "verify"
+PROGRAM = ROOT / "crates" / "verify" / "out" / "verify"
 JOB = (ROOT / "examples" / "accepted.job").read_bytes()
 faults = []
 

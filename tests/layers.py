@@ -20,7 +20,7 @@ def headings():
         if m := re.fullmatch(r"# == (.*) ==", line):
             found.append((m.group(1), []))
         elif line and not line.startswith("#"):
-            found[-1][1].append(line.split(":")[0])
+            found[-1][1].append(line.split(":")[0].split()[0])
     return found
 
 

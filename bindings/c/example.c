@@ -1,8 +1,8 @@
 /* Judges a job from standard input, in chunks, and prints the line that the program `verify` prints.
  *
- * Build, after `rt staticlib exports`, from the repository's folder:
+ * Build, after `rt lib` in crates/exports, from the repository's folder:
  *
- *     cc -O2 -Wall -Wextra -Werror bindings/c/example.c target/staticlib/libexports.a -o target/example_c
+ *     cc -O2 -Wall -Wextra -Werror bindings/c/example.c crates/exports/out/libexports.a -o target/example_c
  */
 #include <stdio.h>
 

@@ -10,7 +10,7 @@
  * and what must not happen without a proof asks phieulakhon_is_accepted of the last one's answer. No other test will do: 0 is no verdict.
  *
  * `./install PREFIX` installs this header and libphieulakhon.a, and a file for pkg-config. In the repository the library is
- * target/staticlib/libexports.a, which `rt staticlib exports` proves and writes. example.c shows how to judge a file, write.c how to write one.
+ * crates/exports/out/libexports.a, which `rt lib` proves and writes there. example.c shows how to judge a file, write.c how to write one.
  *
  * Every call returns for all arguments, and keeps nothing: there is no heap and no global, so calls from several threads need no lock. A call takes
  * less than 8 KiB of stack. docs/FORMAT.md has the file's layout and the table of the answers.

@@ -1,11 +1,11 @@
 /* Writes the proof of the polynomial with coefficients 1, 2, 3, ... for the parameters of the command line and a context of zeros, judges it, and
  * prints the job for the program `verify`:
  *
- *     target/write_c 4 2 1 2 | target/bin/verify
+ *     target/write_c 4 2 1 2 | crates/verify/out/verify
  *
- * Build, after `rt staticlib exports`, from the repository's folder:
+ * Build, after `rt lib` in crates/exports, from the repository's folder:
  *
- *     cc -O2 -Wall -Wextra -Werror bindings/c/write.c target/staticlib/libexports.a -o target/write_c
+ *     cc -O2 -Wall -Wextra -Werror bindings/c/write.c crates/exports/out/libexports.a -o target/write_c
  */
 #include <stdio.h>
 #include <stdlib.h>

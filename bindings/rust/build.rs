@@ -1,5 +1,5 @@
 //! Finds the proved static library: in the folder that PHIEULAKHON_LIB names, as the repository builds it or as
-//! `./install` installs it, or else in the repository's target/staticlib.
+//! `./install` installs it, or else in the repository's crates/exports/out.
 
 use std::env;
 use std::path::{Path, PathBuf};
@@ -16,7 +16,7 @@ fn main() {
         eprintln!("phieulakhon: the proved library is compiled for x86-64 Linux, and there is none for this platform");
         exit(1);
     }
-    let built = Path::new(env!("CARGO_MANIFEST_DIR")).join("../../target/staticlib");
+    let built = Path::new(env!("CARGO_MANIFEST_DIR")).join("../../crates/exports/out");
     let folder = env::var_os(VARIABLE).map_or(built, PathBuf::from);
     let archive = |name| folder.join(format!("lib{name}.a"));
     for name in ARCHIVES {
@@ -27,7 +27,7 @@ fn main() {
             "phieulakhon: {} is missing.",
             archive(ARCHIVES[0]).display()
         );
-        eprintln!("Run `rt staticlib exports` in the repository, which proves the calls and writes it, or set");
+        eprintln!("Run `rt lib` in the repository's crates/exports, which proves the calls and writes it, or set");
         eprintln!("{VARIABLE} to the folder that holds libexports.a or, where it is installed, libphieulakhon.a.");
         exit(1);
     };

@@ -1,6 +1,6 @@
 -- Calls, lists of calls, readers, and what a reader answers to a list of calls and leaves after it.
-use Rattle.std.specs.Prelude.{ℕ, ◌<◌, Bool, true, false, cond, get_or}
-use mathlib.Core.List.{List, [], ◌∷◌, ◌++◌, foldl}
+use Rattle.std.specs.Prelude.{ℕ, ◌<◌, Bool, true, false, cond, get_or, List, [], ◌∷◌, ◌++◌}
+use mathlib.Core.List.{foldl}
 use Rattle.answer.specs.declared.Answer.{Answer}
 use Rattle.answer.specs.Table.{answered, open_so_far, accepted}
 

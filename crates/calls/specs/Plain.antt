@@ -1,6 +1,7 @@
 -- The plain reader of document 01: it keeps all bytes given so far, and judges them anew at each call.
 use Rattle.std.specs.Prelude.{ℕ, zero, suc, Bool, true, false, cond, List, [], ◌++◌, length, take}
-use Rattle.std.proofs.Math.Option.{Option, none, some, map, get_or}
+use Rattle.std.proofs.Math.Option.{Option, none, some}
+use Rattle.std.proofs.Math.Option as option
 use Rattle.answer.specs.declared.Answer.{Answer}
 use Rattle.answer.specs.Table.{answered, open_so_far, accepted, closed, too_few-bytes}
 use Rattle.calls.specs.Calls.{Reader}
@@ -24,7 +25,7 @@ or_else (some a) r = some a
 module _ (t : Table) where
   -- The refusal that byte d of bs decides, counted from 1, at its place.
   abbrev pub decided_by : ℕ → List ℕ → Option Answer
-  decided_by d bs = map (λ number. answered number d) (t.refusal (take d bs))
+  decided_by d bs = option.map (λ number. answered number d) (t.refusal (take d bs))
 
   -- The refusal of the earliest of the first d bytes that decides one; and of all bytes.
   abbrev pub earliest : ℕ → List ℕ → Option Answer
@@ -36,11 +37,11 @@ module _ (t : Table) where
 
   -- The answer to a piece, where bs are the bytes joined: the earliest refusal if there is one, else 0 at their number.
   unfoldable pub after_piece : List ℕ → Answer
-  after_piece bs = get_or (decide bs) (answered open_so_far (length bs))
+  after_piece bs = option.get_or (decide bs) (answered open_so_far (length bs))
 
   -- The answer to the end call: the earliest refusal if there is one, else 1 at their number if they are a whole file, and 26 there if not.
   unfoldable pub after_end : List ℕ → Answer
-  after_end bs = get_or (decide bs) (answered (cond (t.whole bs) accepted too_few-bytes) (length bs))
+  after_end bs = option.get_or (decide bs) (answered (cond (t.whole bs) accepted too_few-bytes) (length bs))
 
 -- A piece: when closed, 11 at 0 and nothing changes; else its bytes are joined on at the end, after a refusal too.
 abbrev pub join_on : Plain → List ℕ → Plain

@@ -1,7 +1,7 @@
 -- A job fed in chunks, as the calls do it, and what is claimed of it for every list of chunks. Only the claim needs to be believed: the rest stands
 -- between two proved statements, the contracts and the claim.
-use Rattle.std.specs.Prelude.{ℕ, ◌+◌, ◌-◌, Bool, true, cond, ◌&&◌, ◌≡◌, eqb, leb, ltb, set, replicate}
-use mathlib.Core.List.{List, foldl, ◌++◌}
+use Rattle.std.specs.Prelude.{ℕ, ◌+◌, ◌-◌, Bool, true, cond, ◌&&◌, ◌≡◌, eqb, leb, ltb, set, replicate, List, ◌++◌}
+use mathlib.Core.List.{foldl}
 use Rattle.answer.specs.declared.Answer.{Answer}
 use Rattle.answer.specs.Table.{answered, open_so_far, job_too_short}
 use Rattle.params.specs.Admission.{admission_of}

@@ -29,6 +29,7 @@ fn number_of(stage: Stage) -> u8
 }
 
 // Every number is a stage: one that names none is a stopped reader's.
+#[tactic(auto, unfolding(crate::specs::Held::stage_of))]
 fn stage_of(number: u8) -> Stage
     ensures { result ≡ stage_of number }
 {

@@ -1,3 +1,1 @@
--- What the walks share.
-pub mod Stored
-pub mod Walks
+-- No lemmas: the check finds the proofs.

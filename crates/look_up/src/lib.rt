@@ -93,7 +93,7 @@ pub struct Found<'a> {
 }
 
 pub fn look_up<'a>(p: Params, proof: &'a [u8], query: usize, layer: usize) -> Found<'a>
-    ensures { (result.answer ≡ spec.look_up_answer p proof.now query layer) × (result.part.now ≡ spec.look_up_part p proof.now query layer) × (result.part.ptr ≡ spec.look_up_place p proof.entry.ref_ptr proof.now query layer) }
+    ensures { (result.answer ≡ spec.look_up_answer p proof.now query layer) × (result.part.now ≡ spec.look_up_part p proof.now query layer) × (result.part.ref_ptr ≡ spec.look_up_place p proof.entry.ref_ptr proof.now query layer) }
 {
     let answer = look_up_answer(p, proof, query, layer);
     let part = look_up_part(p, proof, query, layer);

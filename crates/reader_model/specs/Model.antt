@@ -1,6 +1,6 @@
 -- The reader's calls: one byte, a piece, the opening and the end call.
-use Rattle.std.specs.Prelude.{ℕ, ◌+◌, Bool, cond, ◌&&◌, length, set, replicate, eqb, leb, ltb}
-use mathlib.Core.List.{List, foldl}
+use Rattle.std.specs.Prelude.{ℕ, ◌+◌, Bool, cond, ◌&&◌, length, set, replicate, eqb, leb, ltb, List}
+use mathlib.Core.List.{foldl}
 use Rattle.std.proofs.lemmas.List.Edits.{sets}
 use Rattle.answer.specs.declared.Answer.{Answer}
 use Rattle.answer.specs.Table.{answered, open_so_far, accepted, closed, too_few-bytes, is_fault}

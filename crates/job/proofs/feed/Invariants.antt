@@ -1,0 +1,16 @@
+use Prim.Native.Nat.{◌-◌, ◌≤◌}
+use mathlib.Core.Path.{◌≡◌, refl}
+use mathlib.Core.List.{foldl}
+use native.Mathlib.Omega.{arith}
+use lib.ListN.{length, take}
+use Rattle.calls.proofs.Folds.{fold_turn, fold_done}
+use Rattle.job.specs.Chunks.{taken}
+use borrow.Author.Rules.{rules}
+use Rattle.job.proofs.Laws.{chunk_rest, chunk_done}
+use Rattle.job.proofs.feed.Given as goal
+
+abbrev pub invariant-loop-i : goal.invariant-loop-i
+invariant-loop-i l = (l.i ≤ length l.chunk) × (l.s ≡ foldl taken l.initial.s (take l.i l.chunk))
+
+abbrev pub decreases-loop-i : goal.decreases-loop-i
+decreases-loop-i l = length l.chunk - l.i

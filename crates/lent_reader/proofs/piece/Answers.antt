@@ -1,0 +1,23 @@
+-- `lent_reader::piece` meets its contract: a piece that is held, or one that is read.
+use Prim.Native.Nat.{◌+◌, ◌<◌}
+use mathlib.Core.Path.{sym, ◌∙◌}
+use lib.ListN.{length}
+use native.Mathlib.Omega.{arith}
+use borrow.Author.Rules.{rules}
+use borrow.Author.Tests.{ltb-true}
+use Rattle.reader_model.specs.State.{item_length}
+use Rattle.reader_model.proofs.Pieces.{item-fits}
+use Rattle.lent_reader.proofs.Laws.{read_whole, held-piece}
+use Rattle.lent_reader.proofs.piece.Goals as goal
+
+pub returns-then-fill_item : goal.returns-then-fill_item
+returns-then-fill_item c =
+    let front = c.front_of-front.ensures in
+    let filled = c.fill_item.ensures in
+    held-piece _ _ _ _ _ _ _ _ _ _ front.0 filled.inside filled.item front.1.0 front.1.1.0 front.1.1.1 c.if-fill_item.true c.open_answer.ensures
+
+pub returns-else-fill_item : goal.returns-else-fill_item
+returns-else-fill_item c =
+    let test = c in
+    let filled = test.fill_item.ensures in
+    read_whole _ _ _ _ _ _ _ _ _ _ test.front_of-front.ensures.0 filled.inside filled.item test.if-fill_item.false c.read.ensures

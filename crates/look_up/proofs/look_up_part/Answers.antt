@@ -1,0 +1,13 @@
+use native.Mathlib.Omega.{arith}
+use borrow.Author.Rules.{rules}
+use Rattle.look_up.proofs.LookUpLaws.{cut_within, cut_part, cut_place}
+use Rattle.look_up.proofs.look_up_part.Goals as goal
+
+pub overflow_add-end : goal.overflow_add-end
+overflow_add-end c = record { fits = omega (arith, cut_within _ _ _ _ c.look_up_span-span.ensures) }
+
+pub slice_bounds-result-end : goal.slice_bounds-result-end
+slice_bounds-result-end c = cut_within _ _ _ _ c.look_up_span-span.ensures
+
+pub returns : goal.returns
+returns c = (cut_part _ _ _ _ c.look_up_span-span.ensures, cut_place _ _ _ _ _ c.look_up_span-span.ensures)

@@ -1,0 +1,15 @@
+use Prim.Native.Nat.{◌*◌, ◌-◌, ◌≤◌}
+use mathlib.Core.List.{◌++◌}
+use mathlib.Core.Path.{◌≡◌}
+use native.Mathlib.Omega.{arith}
+use borrow.Author.Rules.{rules}
+use lib.ListN.{length, take, drop}
+use Rattle.fold.specs.Poly.{fold}
+use Rattle.polynomial.proofs.PolynomialLaws.{fold_start, fold_turn, fold_end, fold_none}
+use Rattle.polynomial.proofs.fold.Given as goal
+
+abbrev pub invariant-loop-i : goal.invariant-loop-i
+invariant-loop-i l = (l.i ≤ l.half) × ((length l.poly ≡ length l.initial.poly) × (l.poly ≡ fold l.beta (take (2 * l.i) l.initial.poly) ++ drop l.i l.initial.poly))
+
+abbrev pub decreases-loop-i : goal.decreases-loop-i
+decreases-loop-i l = l.half - l.i

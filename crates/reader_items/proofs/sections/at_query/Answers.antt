@@ -1,0 +1,8 @@
+-- `reader::sections::at_query` meets its contract.
+use Rattle.reader_model.specs.Items.{at_query}
+use borrow.Author.Rules.{rules}
+use Rattle.reader_items.proofs.sections.at_query.Goals as goal
+
+pub returns : goal.returns
+unfolding at_query
+returns c = simp c.draw-index.ensures

@@ -1,0 +1,18 @@
+use Prim.Native.Nat.{◌≤◌, ◌<◌, ◌-◌, ◌+◌}
+use mathlib.Core.Path.{◌≡◌, refl, sym, ◌∙◌}
+use native.Mathlib.Omega.{arith}
+use borrow.Author.Rules.{rules}
+use lib.ListN.{length, take, drop, length-drop}
+use lib.Seq.{length-take-le}
+use Rattle.sha256.specs.Sha256.{sha256}
+use Rattle.reader_model.specs.State.{item_length, whole}
+use Rattle.reader_model.specs.Model.{fed}
+use Rattle.reader_items.proofs.Laws.{goes_on_sane, advanced-risen}
+use Rattle.reader_model.proofs.Pieces.{item-fits, fed-stopped, fed_all, fed-more, fed_last}
+use Rattle.reader_pieces.proofs.feed.Given as goal
+
+abbrev pub invariant-loop-i : goal.invariant-loop-i
+invariant-loop-i l = (l.i ≤ length l.bytes) × (whole l.c l.roots l.challenges l.coefficients ≡ fed sha256 (whole l.initial.c l.initial.roots l.initial.challenges l.initial.coefficients) (take l.i l.bytes))
+
+abbrev pub decreases-loop-i : goal.decreases-loop-i
+decreases-loop-i l = length l.bytes - l.i

@@ -1,0 +1,11 @@
+-- `writer_layers::sizes::leaves_of` meets its contract: a tree has 2 to its height leaves.
+use mathlib.Core.Path.{ap, ◌∙◌}
+use borrow.Author.Rules.{rules}
+use Prim.Native.Nat.{◌^◌}
+use Rattle.binary.proofs.BinaryLaws.{power_made}
+use Rattle.writer_layers.proofs.sizes.leaves_of.Goals as goal
+
+pub returns : goal.returns
+returns c =
+    let count = power_made _ c.height_of.ensures.1 c.power_of_two.ensures in
+    (count.0 ∙ ap (λ d. 2 ^ d) c.height_of.ensures.0, count.1)
