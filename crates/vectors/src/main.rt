@@ -3,7 +3,9 @@
 // Monte test's seed follows.
 #![tactic(auto)]
 
-ghost use Rattle.std.specs.Prelude.{◌≡◌, ◌++◌, ◌+◌, ◌*◌, ◌<◌, get_or};
+ghost use Rattle.std.specs.Prelude.{◌≡◌, ◌++◌, ◌+◌, ◌*◌, ◌<◌, IfOk, OnOk, IsTrue, get_or};
+ghost use Rattle.std.specs.Io.KnownBytes.{Consumes, Appends};
+ghost use Rattle.vectors.specs.Lines.{digest_line, hashed_line, TellsMessage, TellsMonte};
 ghost use Rattle.vectors.specs.Monte as spec;
 
 use sha256::Hashed;
@@ -32,7 +34,9 @@ fn length_of(b: &[u8; 2]) -> usize
 }
 
 // Reads until the buffer is full; false where the file ends before.
-fn read_full<R: Read>(input: &mut R, buf: &mut [u8]) -> io::Result<bool> {
+fn read_full<R: Read>(input: &mut R, buf: &mut [u8]) -> io::Result<bool>
+    ensures { IfOk result (λ full. IsTrue full → Consumes (R.remaining input.old) (R.remaining input.new) buf.new) }
+{
     match input.read_exact(buf) {
         Ok(()) => Ok(true),
         Err(e) => {
@@ -46,15 +50,19 @@ fn read_full<R: Read>(input: &mut R, buf: &mut [u8]) -> io::Result<bool> {
 }
 
 // A digest's line.
-fn print_digest<W: Write>(out: &mut W, digest: [u8; 32]) -> io::Result<()> {
-    for byte in &digest {
-        write!(out, "{byte:02x}")?;
-    }
-    writeln!(out)
+fn print_digest<W: Write>(out: &mut W, digest: [u8; 32]) -> io::Result<()>
+    ensures { OnOk result (Appends (W.contents out.old) (W.contents out.new) (digest_line digest)) }
+{
+    let mut line = [b'\n'; 65];
+    let written = hex::encode_to_slice(&digest, &mut line[..64]);
+    prove!(written.is_ok());
+    out.write_all(&line)
 }
 
 // The line of a hash's answer: the digest, or the number of a refusal.
-fn print_hashed<W: Write>(out: &mut W, h: Hashed) -> io::Result<()> {
+fn print_hashed<W: Write>(out: &mut W, h: Hashed) -> io::Result<()>
+    ensures { OnOk result (Appends (W.contents out.old) (W.contents out.new) (hashed_line h)) }
+{
     let number = h.answer.number;
     if number != answer::OPEN {
         return writeln!(out, "refused {number}");
@@ -65,9 +73,12 @@ fn print_hashed<W: Write>(out: &mut W, h: Hashed) -> io::Result<()> {
 
 // The next message's line; false where the messages, or the file, end. Every length in 2 bytes fits the buffer, so that it is the hash that
 // refuses a message too long.
-fn run_message<R: Read, W: Write>(input: &mut R, out: &mut W) -> io::Result<bool> {
+fn run_message<R: Read, W: Write>(input: &mut R, out: &mut W) -> io::Result<bool>
+    ensures { IfOk result (λ more. IsTrue more → TellsMessage (R.remaining input.old) (R.remaining input.new) (W.contents out.old) (W.contents out.new)) }
+{
     let mut size = [0u8; 2];
-    if !read_full(input, &mut size)? {
+    let has_size = read_full(input, &mut size)?;
+    if !has_size {
         return Ok(false);
     }
     let len = length_of(&size);
@@ -75,10 +86,12 @@ fn run_message<R: Read, W: Write>(input: &mut R, out: &mut W) -> io::Result<bool
         return Ok(false);
     }
     let mut buf = [0u8; 65536];
-    if !read_full(input, &mut buf[..len])? {
+    let full = read_full(input, &mut buf[..len])?;
+    if !full {
         return Ok(false);
     }
-    print_hashed(out, sha256::hash(&buf[..len]))?;
+    let h = sha256::hash(&buf[..len]);
+    print_hashed(out, h)?;
     Ok(true)
 }
 
@@ -125,18 +138,21 @@ fn checkpoint(seed: [u8; 32]) -> [u8; 32]
     c
 }
 
-// The checkpoints' lines, each checkpoint the seed of the next.
-fn run_monte<R: Read, W: Write>(input: &mut R, out: &mut W) -> io::Result<()> {
+// The checkpoints' lines, each checkpoint the seed of the next; false where the file ends in the first seed.
+fn run_monte<R: Read, W: Write>(input: &mut R, out: &mut W) -> io::Result<bool>
+    ensures { IfOk result (λ whole. IsTrue whole → TellsMonte (R.remaining input.old) (R.remaining input.new) (W.contents out.old) (W.contents out.new)) }
+{
     let mut seed = [0u8; 32];
-    if !read_full(input, &mut seed)? {
-        return Ok(());
+    let full = read_full(input, &mut seed)?;
+    if !full {
+        return Ok(false);
     }
     for _ in 0..CHECKPOINTS {
         let next = checkpoint(seed);
         print_digest(out, next)?;
         seed = next;
     }
-    Ok(())
+    Ok(true)
 }
 
 fn main(rt: HostRuntime) -> io::Result<()> {
@@ -150,5 +166,6 @@ fn main(rt: HostRuntime) -> io::Result<()> {
             break;
         }
     }
-    run_monte(&mut file, &mut rt.stdout())
+    run_monte(&mut file, &mut rt.stdout())?;
+    Ok(())
 }
