@@ -18,12 +18,12 @@ use Rattle.reader_model.specs.declared.Core.{Core}
 use Rattle.reader_model.specs.declared.Tables.{Tables}
 use Rattle.reader_model.specs.declared.Reader.{Reader}
 use Rattle.reader_model.specs.declared.Reply.{Reply}
-use Rattle.reader_model.specs.State.{item_length, whole, with_item}
-use Rattle.reader_model.specs.Model.{ends_inside, filled_item, is_stopped, open_answer, told, answer_of, replied, fed, pieced, ended}
+use Rattle.reader_model.specs.State.{item_length, whole}
+use Rattle.reader_model.specs.Model.{ends_inside, filled_item, is_stopped, open_answer, told, answer_of, replied, pieced, ended}
 use Rattle.reader_model.proofs.Pieces.{filled_inside, filled_not, run, fed_inside}
 use Rattle.lent_reader.specs.declared.parts.Front.{Front}
 use Rattle.lent_reader.specs.Private.{front_of}
-use Rattle.lent_reader.specs.Held.{Small, Held, Outcome, number_of, stage_of, small, small_of, core_of, held, held_of, reader_of, outcome, outcome_of}
+use Rattle.lent_reader.specs.Held.{Small, Outcome, number_of, stage_of, small, small_of, core_of, held, held_of, reader_of, outcome, outcome_of}
 
 -- The outcome of a reply's parts is the reply's.
 pub outcome_by : {s : Small} {a : Answer} {c : Core} {y : Reply} (roots challenges coefficients : List ℕ) → s ≡ small_of c → replied a c roots challenges coefficients ≡ y

@@ -1,5 +1,5 @@
 -- Abbreviations of the private contracts.
-use Rattle.std.specs.Prelude.{ℕ, ◌+◌, ◌≤◌, ◌<◌, Bool, true, false, ◌&&◌, ltb}
+use Rattle.std.specs.Prelude.{◌+◌, ◌≤◌, ◌<◌, Bool, true, false, ◌&&◌, ltb}
 use Rattle.sha256.specs.Sha256.{sha256}
 use Rattle.params.specs.Parameters.{height}
 use Rattle.reader_model.specs.declared.Stage.{Stage}

@@ -24,7 +24,6 @@ use Rattle.reader_model.specs.State.{closed_state}
 use Rattle.reader_model.specs.Items.{sane}
 use Rattle.reader_model.specs.Model.{step, fed, pieced, ended, started, opened}
 use Rattle.reader_model.specs.Claim.{table, reader, Opened, Refused, Claim}
-use Rattle.reader_model.specs.Claim
 use Rattle.reader_model.proofs.Whole.{says, ends_with, Reached, reaches, started_reached, reached_sane, refused_core, shuts, denotes}
 
 -- A piece after a piece is the one piece of both, so the pieces of a list are the one piece of all their bytes.

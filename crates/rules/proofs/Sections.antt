@@ -1,5 +1,5 @@
 -- The judgement as one step through a file, with all the table's faults but the last. Assumes nothing.
-use Prim.Native.Nat.{ℕ, suc, ◌+◌, ◌*◌, ◌-◌, ◌<◌}
+use Prim.Native.Nat.{ℕ, suc, ◌+◌, ◌-◌, ◌<◌}
 use mathlib.Core.List.{List}
 use mathlib.Core.Path.{◌≡◌, refl}
 use native.Mathlib.Nat.{add-zero}
@@ -7,7 +7,7 @@ use native.Mathlib.Omega.{arith}
 use lib.ListN.{get_or, drop}
 use Rattle.answer.specs.Table.{count_differs, parameters_differ, not_below_modulus}
 use Rattle.params.specs.declared.Params.{Params}
-use Rattle.params.specs.Parameters.{Valid, header_size, header, final_count, root_count_offset, root_offset, final_count_offset, coefficient_offset, query_count_offset, queries_offset, opening_offset, file_length}
+use Rattle.params.specs.Parameters.{Valid, header_size, header, final_count, root_count_offset, final_count_offset, coefficient_offset, query_count_offset, queries_offset, opening_offset, file_length}
 use Rattle.field.specs.Modular.{p as modulus}
 use Rattle.message.specs.Bytes.{num, part}
 use Rattle.message.specs.Message.{Digest}

@@ -1,12 +1,12 @@
 -- The table of refusals, row by row (document 01, "When the reader says no"): each number with its rule and its place, by offsets in the bytes.
 -- Nothing here goes through the file in order: a rule looks at the bytes where the layout has them, whatever stands before.
-use Rattle.std.specs.Prelude.{ℕ, suc, ◌+◌, ◌*◌, ◌≤◌, ◌<◌, List, ◌≡◌, length, get_or}
+use Rattle.std.specs.Prelude.{ℕ, suc, ◌+◌, ◌≤◌, ◌<◌, List, ◌≡◌, length, get_or}
 use Rattle.answer.specs.Table.{open_so_far, accepted, count_differs, parameters_differ, not_below_modulus, not_the_folded-value, path_misses_root, misses_final_polynomial, too_few-bytes, byte_after_the_end}
 use Rattle.field.specs.Modular.{p as modulus}
 use Rattle.params.specs.declared.Params.{Params}
 use Rattle.params.specs.declared.Terms.{Terms}
 use Rattle.params.specs.Admission.{admission_of, Admitted}
-use Rattle.params.specs.Parameters.{header_size, header, final_count, depth, values_per_leaf, height, opening_length, root_count_offset, root_offset, final_count_offset, coefficient_offset, query_count_offset, queries_offset, opening_offset, value_offset, sibling_offset, file_length}
+use Rattle.params.specs.Parameters.{header_size, header, final_count, depth, values_per_leaf, height, opening_length, root_count_offset, root_offset, final_count_offset, coefficient_offset, query_count_offset, opening_offset, value_offset, sibling_offset, file_length}
 use Rattle.message.specs.Bytes.{num, part}
 use Rattle.message.specs.Message.{Digest}
 use Rattle.domain.specs.Domain.{point}

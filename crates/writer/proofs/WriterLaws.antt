@@ -8,7 +8,7 @@ use native.Mathlib.Omega.{arith}
 use borrow.Author.Tests.{lt-ltb, le-ltb, lt-leb, le-leb, ne_eqb, eq-eqb}
 use lib.Dec.{eqb, leb}
 use lib.ListN.{length, take, drop, get_or, drop_of_length-le}
-use lib.Seq.{sets, drop-cons, length-take-le}
+use lib.Seq.{drop-cons, length-take-le}
 use Rattle.params.specs.declared.Params.{Params}
 use Rattle.params.specs.Parameters.{file_length}
 use Rattle.params.specs.Admission.{admission}

@@ -5,7 +5,7 @@ use mathlib.Core.Path.{◌≡◌, refl, sym, ap, ap₂, ◌∙◌}
 use native.Mathlib.Omega.{arith}
 use lib.ListN.{length, get_or}
 use Rattle.params.specs.declared.Params.{Params}
-use Rattle.params.specs.Parameters.{Valid, depth, values_per_leaf, height, leaf_count, index_bits, final_count}
+use Rattle.params.specs.Parameters.{Valid, values_per_leaf, height, leaf_count, index_bits, final_count}
 use Rattle.message.specs.Bytes.{joined, part, words}
 use Rattle.message.specs.Message.{Digest}
 use Rattle.params.proofs.LeafLaws.{leaf_lt}

@@ -1,6 +1,6 @@
 -- The writer's buffers, step by step. Layer j has its values in the lent numbers and its tree
 -- in the lent bytes, each from the layer's size on; the polynomial stands in front of the numbers and is folded there.
-use Rattle.std.specs.Prelude.{ℕ, zero, suc, ◌+◌, ◌*◌, ◌^◌, ◌-◌, ◌%◌, List, ◌++◌, take}
+use Rattle.std.specs.Prelude.{ℕ, zero, suc, ◌*◌, ◌^◌, ◌-◌, ◌%◌, List, ◌++◌, take}
 use Rattle.std.proofs.lemmas.List.Edits.{sets}
 use Rattle.params.specs.declared.Params.{Params}
 use Rattle.params.specs.Parameters.{header_size, header, depth, values_per_leaf, height, leaf_count, index_bits, final_count, root_count_offset, root_offset, final_count_offset, coefficient_offset, query_count_offset, queries_offset}

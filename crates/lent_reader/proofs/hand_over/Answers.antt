@@ -1,6 +1,5 @@
 -- `lent_reader::hand_over` meets its contract.
 use mathlib.Core.Path.{refl}
-use borrow.Author.Rules.{rules}
 use Rattle.lent_reader.proofs.Laws.{outcome_by}
 use Rattle.lent_reader.proofs.hand_over.Goals as goal
 

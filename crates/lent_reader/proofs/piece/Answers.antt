@@ -1,12 +1,4 @@
 -- `lent_reader::piece` meets its contract: a piece that is held, or one that is read.
-use Prim.Native.Nat.{◌+◌, ◌<◌}
-use mathlib.Core.Path.{sym, ◌∙◌}
-use lib.ListN.{length}
-use native.Mathlib.Omega.{arith}
-use borrow.Author.Rules.{rules}
-use borrow.Author.Tests.{ltb-true}
-use Rattle.reader_model.specs.State.{item_length}
-use Rattle.reader_model.proofs.Pieces.{item-fits}
 use Rattle.lent_reader.proofs.Laws.{read_whole, held-piece}
 use Rattle.lent_reader.proofs.piece.Goals as goal
 

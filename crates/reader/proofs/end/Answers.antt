@@ -1,6 +1,5 @@
 -- `reader::end` meets its contract.
 use Rattle.reader_model.specs.Model.{ended}
-use borrow.Author.Rules.{rules}
 use Rattle.reader.proofs.end.Goals as goal
 
 pub returns : goal.returns

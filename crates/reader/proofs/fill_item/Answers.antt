@@ -1,26 +1,20 @@
 -- `reader::fill_item` meets its contract: a run of bytes within the item, or nothing.
-use Prim.Native.Nat.{◌+◌, ◌<◌}
 use mathlib.Core.Path.{sym, ◌∙◌}
-use lib.ListN.{length}
-use native.Mathlib.Omega.{arith}
-use borrow.Author.Rules.{rules}
-use borrow.Author.Tests.{ltb-true}
-use Rattle.reader_model.specs.State.{item_length}
-use Rattle.reader_model.proofs.Pieces.{item-fits, gathered_inside, filled_not}
+use Rattle.reader_model.proofs.Pieces.{gathered_inside, filled_not}
 use Rattle.reader.proofs.fill_item.Goals as goal
 
 pub returns-then-ends_inside : goal.returns-then-ends_inside
 returns-then-ends_inside c =
     let inside = sym c.ends_inside.ensures ∙ c.if-ends_inside.true in
     record {
-  inside = sym inside;
-  item = gathered_inside _ _ _ _ inside c.gather.ensures;
-}
+      inside = sym inside;
+      item = gathered_inside _ _ _ _ inside c.gather.ensures;
+    }
 
 pub returns-else-ends_inside : goal.returns-else-ends_inside
 returns-else-ends_inside c =
     let outside = sym c.ends_inside.ensures ∙ c.if-ends_inside.false in
     record {
-  inside = sym outside;
-  item = filled_not _ _ _ _ outside;
-}
+      inside = sym outside;
+      item = filled_not _ _ _ _ outside;
+    }

@@ -1,5 +1,4 @@
 -- `reader::piece_in_place` meets its contract.
-use borrow.Author.Rules.{rules}
 use Rattle.sha256.specs.Sha256.{sha256}
 use Rattle.reader_model.proofs.Pieces.{answers}
 use Rattle.reader.proofs.piece_in_place.Goals as goal

@@ -1,6 +1,5 @@
 -- `reader::start` meets its contract.
 use Rattle.reader_model.specs.Model.{started}
-use borrow.Author.Rules.{rules}
 use Rattle.reader.proofs.start.Goals as goal
 
 pub returns : goal.returns

@@ -1,7 +1,6 @@
 -- `reader_pieces::advance` meets its contract.
 use Rattle.reader_items.proofs.Laws.{sane_bounds, advanced-sane, advanced_not}
 use mathlib.Core.Path.{sym, ◌∙◌}
-use borrow.Author.Rules.{rules}
 use Rattle.reader_pieces.proofs.advance.Goals as goal
 
 pub dispatch-requires : goal.dispatch-requires

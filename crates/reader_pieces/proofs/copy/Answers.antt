@@ -1,12 +1,9 @@
 -- `reader_pieces::copy` meets its contract: after i turns the first i bytes are stored.
-use Prim.Native.Nat.{◌≤◌, ◌<◌, ◌-◌}
-use mathlib.Core.Path.{◌≡◌, refl}
+use Prim.Native.Nat.{◌<◌}
 use native.Mathlib.Omega.{arith}
 use borrow.Author.Rules.{rules}
-use lib.ListN.{length, take}
-use lib.Seq.{sets}
+use lib.ListN.{length}
 use Rattle.buffer.proofs.BufferLaws.{copy_more}
-use Rattle.reader_items.proofs.Laws.{copy_stop}
 use Rattle.reader_pieces.proofs.copy.Goals as goal
 
 pub loop-i-preserved : goal.loop-i-preserved

@@ -1,11 +1,7 @@
-use Prim.Native.Nat.{◌≤◌, ◌<◌, ◌-◌}
-use mathlib.Core.Path.{◌≡◌, refl}
-use native.Mathlib.Omega.{arith}
-use borrow.Author.Rules.{rules}
-use lib.ListN.{length, take}
+use Prim.Native.Nat.{◌≤◌, ◌-◌}
+use mathlib.Core.Path.{◌≡◌}
+use lib.ListN.{take}
 use lib.Seq.{sets}
-use Rattle.buffer.proofs.BufferLaws.{copy_more}
-use Rattle.reader_items.proofs.Laws.{copy_stop}
 use Rattle.reader_pieces.proofs.copy.Given as goal
 
 abbrev pub invariant-loop-i : goal.invariant-loop-i

@@ -1,15 +1,14 @@
 -- `reader_pieces::feed` meets its contract: at the loop's head the parts put together are the state after the first i bytes.
-use Prim.Native.Nat.{◌≤◌, ◌<◌, ◌-◌, ◌+◌}
+use Prim.Native.Nat.{◌≤◌, ◌<◌, ◌+◌}
 use mathlib.Core.Path.{◌≡◌, refl, sym, ◌∙◌}
 use native.Mathlib.Omega.{arith}
 use borrow.Author.Rules.{rules}
-use lib.ListN.{length, take, drop, length-drop}
-use lib.Seq.{length-take-le}
+use lib.ListN.{length}
 use Rattle.sha256.specs.Sha256.{sha256}
-use Rattle.reader_model.specs.State.{item_length, whole}
+use Rattle.reader_model.specs.State.{item_length}
 use Rattle.reader_model.specs.Model.{fed}
 use Rattle.reader_items.proofs.Laws.{goes_on_sane, advanced-risen}
-use Rattle.reader_model.proofs.Pieces.{item-fits, fed-stopped, fed_all, fed-more, fed_last}
+use Rattle.reader_model.proofs.Pieces.{fed-stopped, fed-more, fed_last}
 use Rattle.reader_pieces.proofs.feed.Goals as goal
 
 pub loop-i-init : goal.loop-i-init

@@ -1,14 +1,9 @@
-use Prim.Native.Nat.{◌≤◌, ◌<◌, ◌-◌, ◌+◌}
-use mathlib.Core.Path.{◌≡◌, refl, sym, ◌∙◌}
-use native.Mathlib.Omega.{arith}
-use borrow.Author.Rules.{rules}
-use lib.ListN.{length, take, drop, length-drop}
-use lib.Seq.{length-take-le}
+use Prim.Native.Nat.{◌≤◌, ◌-◌}
+use mathlib.Core.Path.{◌≡◌}
+use lib.ListN.{length, take}
 use Rattle.sha256.specs.Sha256.{sha256}
-use Rattle.reader_model.specs.State.{item_length, whole}
+use Rattle.reader_model.specs.State.{whole}
 use Rattle.reader_model.specs.Model.{fed}
-use Rattle.reader_items.proofs.Laws.{goes_on_sane, advanced-risen}
-use Rattle.reader_model.proofs.Pieces.{item-fits, fed-stopped, fed_all, fed-more, fed_last}
 use Rattle.reader_pieces.proofs.feed.Given as goal
 
 abbrev pub invariant-loop-i : goal.invariant-loop-i

@@ -2,7 +2,6 @@
 use mathlib.Core.Path.{◌∙◌}
 use Rattle.reader_model.specs.Items.{after_leaf}
 use Rattle.reader_model.proofs.Choice.{taken, left}
-use borrow.Author.Rules.{rules}
 use Rattle.reader_queries.proofs.after_leaf.Goals as goal
 
 pub returns-then-is_linked : goal.returns-then-is_linked

@@ -2,7 +2,6 @@
 use Rattle.reader_model.specs.Items.{rooted, after_path}
 use Rattle.reader_model.proofs.Choice.{taken, left}
 use mathlib.Core.Path.{sym, ◌∙◌}
-use borrow.Author.Rules.{rules}
 use Rattle.reader_queries.proofs.after_path.Goals as goal
 
 pub returns-then-is_root : goal.returns-then-is_root

@@ -3,7 +3,6 @@ use Rattle.reader_model.specs.Items.{after_sibling}
 use Rattle.reader_model.proofs.Choice.{taken, left}
 use mathlib.Core.Path.{◌∙◌}
 use borrow.Author.Tests.{lt-ltb, le-ltb}
-use borrow.Author.Rules.{rules}
 use Rattle.reader_queries.proofs.after_sibling.Goals as goal
 
 pub returns-then-above-height : goal.returns-then-above-height

@@ -4,7 +4,6 @@ use borrow.Author.Tests.{lt-ltb, le-ltb}
 use Rattle.reader_model.specs.Items.{after_value}
 use Rattle.reader_model.proofs.Choice.{taken, left}
 use Rattle.reader_items.proofs.Bytes.{less_as, not_less_as}
-use borrow.Author.Rules.{rules}
 use Rattle.reader_queries.proofs.after_value.Goals as goal
 
 pub returns-then-value-ge-MODULUS : goal.returns-then-value-ge-MODULUS

@@ -2,7 +2,6 @@
 use Rattle.domain.specs.Domain.{half}
 use Rattle.reader_model.specs.Items.{at_leaf}
 use Rattle.reader_items.proofs.Bytes.{first_of, second_of}
-use borrow.Author.Rules.{rules}
 use Rattle.reader_queries.proofs.at_leaf.Goals as goal
 
 pub returns : goal.returns

@@ -1,6 +1,5 @@
 -- `reader::queries::climb` meets its contract.
 use Rattle.reader_model.specs.Items.{climbed}
-use borrow.Author.Rules.{rules}
 use Rattle.reader_queries.proofs.climb.Goals as goal
 
 pub returns : goal.returns

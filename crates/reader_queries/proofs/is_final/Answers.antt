@@ -1,6 +1,5 @@
 -- `reader::queries::is_final` meets its contract.
 use Rattle.reader_model.specs.Items.{finished}
-use borrow.Author.Rules.{rules}
 use Rattle.reader_queries.proofs.is_final.Goals as goal
 
 pub returns : goal.returns

@@ -1,6 +1,5 @@
 -- `reader::queries::is_linked` meets its contract.
 use Rattle.reader_model.specs.Items.{linked}
-use borrow.Author.Rules.{rules}
 use Rattle.reader_queries.proofs.is_linked.Goals as goal
 
 pub returns : goal.returns

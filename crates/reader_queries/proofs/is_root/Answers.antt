@@ -1,10 +1,9 @@
 -- `reader::queries::is_root` meets its contract: before byte i the node and the root agree.
-use Prim.Native.Nat.{ℕ, ◌≤◌, ◌<◌, ◌-◌, ◌+◌, ◌*◌}
+use Prim.Native.Nat.{◌*◌}
 use mathlib.Core.Path.{◌≡◌}
 use native.Mathlib.Omega.{arith}
-use borrow.Author.Count.{below_more}
 use borrow.Author.Rules.{rules}
-use lib.ListN.{length, get_or}
+use lib.ListN.{length}
 use Rattle.reader_items.proofs.Bytes.{part_differs, part_same}
 use Rattle.reader_queries.proofs.is_root.Goals as goal
 

@@ -1,10 +1,6 @@
-use Prim.Native.Nat.{ℕ, ◌≤◌, ◌<◌, ◌-◌, ◌+◌, ◌*◌}
+use Prim.Native.Nat.{ℕ, ◌≤◌, ◌<◌, ◌-◌, ◌+◌}
 use mathlib.Core.Path.{◌≡◌}
-use native.Mathlib.Omega.{arith}
-use borrow.Author.Count.{below_more}
-use borrow.Author.Rules.{rules}
-use lib.ListN.{length, get_or}
-use Rattle.reader_items.proofs.Bytes.{part_differs, part_same}
+use lib.ListN.{get_or}
 use Rattle.reader_queries.proofs.is_root.Given as goal
 
 abbrev pub invariant-loop-i : goal.invariant-loop-i

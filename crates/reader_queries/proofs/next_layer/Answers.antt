@@ -3,7 +3,6 @@ use Rattle.reader_model.specs.Items.{next_layer}
 use Rattle.reader_model.proofs.Choice.{taken, left}
 use mathlib.Core.Path.{sym, ◌∙◌}
 use borrow.Author.Tests.{lt-ltb, le-ltb}
-use borrow.Author.Rules.{rules}
 use Rattle.reader_queries.proofs.next_layer.Goals as goal
 
 pub returns-then-above-c : goal.returns-then-above-c

@@ -4,7 +4,6 @@ use Rattle.reader_model.proofs.Choice.{taken, left}
 use mathlib.Core.Path.{◌∙◌}
 use borrow.Author.Tests.{lt-ltb, le-ltb}
 use native.Mathlib.Omega.{arith}
-use borrow.Author.Rules.{rules}
 use Rattle.reader_queries.proofs.next_query.Goals as goal
 
 pub moved-requires : goal.moved-requires

@@ -1,7 +1,6 @@
 -- `reader::queries::node_above` meets its contract: an even node stands left.
 use mathlib.Core.Path.{◌∙◌, sym}
 use Rattle.merkle.proofs.MerkleLaws.{parent_even, parent_odd}
-use borrow.Author.Rules.{rules}
 use Rattle.reader_queries.proofs.node_above.Goals as goal
 
 pub returns-then-position-eq0 : goal.returns-then-position-eq0

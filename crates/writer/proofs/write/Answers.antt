@@ -1,7 +1,6 @@
 -- `writer::write` meets its contract: what the tests refuse is refused, and all else is written.
 use mathlib.Core.Path.{sym, ◌∙◌}
 use native.Mathlib.Omega.{arith}
-use borrow.Author.Rules.{rules}
 use lib.Seq.{length-take-le}
 use Rattle.params.specs.Parameters.{file_length}
 use Rattle.params.proofs.ParameterLaws.{from_valid}

@@ -1,7 +1,6 @@
 -- `lent_reader::parts::keep` meets its contract.
 use Rattle.buffer.specs.Buffer.{put}
 use Rattle.lent_reader.specs.Held.{small_of}
-use borrow.Author.Rules.{rules}
 use Rattle.lent_reader.proofs.parts.keep.Goals as goal
 
 pub returns : goal.returns

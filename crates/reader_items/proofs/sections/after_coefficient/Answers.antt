@@ -3,7 +3,6 @@ use Rattle.reader_model.specs.Items.{after_coefficient, coefficients_after}
 use Rattle.reader_model.proofs.Choice.{taken, left}
 use mathlib.Core.Path.{◌∙◌}
 use borrow.Author.Tests.{lt-ltb, le-ltb}
-use borrow.Author.Rules.{rules}
 use Rattle.reader_items.proofs.sections.after_coefficient.Goals as goal
 
 pub returns-then-value-ge-MODULUS : goal.returns-then-value-ge-MODULUS

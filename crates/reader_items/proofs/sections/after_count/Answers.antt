@@ -3,7 +3,6 @@ use Rattle.reader_model.specs.Items.{after_count}
 use Rattle.reader_model.proofs.Choice.{taken, left}
 use mathlib.Core.Path.{sym, ◌∙◌}
 use borrow.Author.Tests.{eq-eqb, ne_eqb}
-use borrow.Author.Rules.{rules}
 use Rattle.reader_items.proofs.sections.after_count.Goals as goal
 
 pub returns-then-count-want : goal.returns-then-count-want

@@ -2,7 +2,6 @@
 use Rattle.reader_model.specs.Items.{after_parameters}
 use Rattle.reader_model.proofs.Choice.{taken, left}
 use mathlib.Core.Path.{sym, ◌∙◌}
-use borrow.Author.Rules.{rules}
 use Rattle.reader_items.proofs.sections.after_parameters.Goals as goal
 
 pub returns-then-same_parameters : goal.returns-then-same_parameters

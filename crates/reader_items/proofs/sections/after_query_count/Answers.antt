@@ -4,7 +4,6 @@ use Rattle.reader_model.proofs.Choice.{taken, left}
 use mathlib.Core.Path.{sym, ◌∙◌}
 use borrow.Author.Tests.{eq-eqb, ne_eqb}
 use native.Mathlib.Omega.{arith}
-use borrow.Author.Rules.{rules}
 use Rattle.reader_items.proofs.sections.after_query_count.Goals as goal
 
 pub moved-requires : goal.moved-requires

@@ -1,6 +1,5 @@
 -- `reader::sections::at_query` meets its contract.
 use Rattle.reader_model.specs.Items.{at_query}
-use borrow.Author.Rules.{rules}
 use Rattle.reader_items.proofs.sections.at_query.Goals as goal
 
 pub returns : goal.returns

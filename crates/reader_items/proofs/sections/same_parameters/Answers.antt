@@ -1,11 +1,8 @@
 -- `reader::sections::same_parameters` meets its contract: before byte i the item and the parameter bytes agree.
-use Prim.Native.Nat.{ℕ, ◌≤◌, ◌<◌, ◌-◌}
 use mathlib.Core.Path.{◌≡◌}
 use native.Mathlib.Omega.{arith}
-use borrow.Author.Count.{below_more}
 use borrow.Author.Rules.{rules}
-use lib.ListN.{length, get_or}
-use Rattle.params.specs.Parameters.{header_size}
+use lib.ListN.{length}
 use Rattle.reader_items.proofs.Bytes.{header_differs, header-same}
 use Rattle.reader_items.proofs.sections.same_parameters.Goals as goal
 

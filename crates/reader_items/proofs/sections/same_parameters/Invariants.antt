@@ -1,11 +1,7 @@
 use Prim.Native.Nat.{ℕ, ◌≤◌, ◌<◌, ◌-◌}
 use mathlib.Core.Path.{◌≡◌}
-use native.Mathlib.Omega.{arith}
-use borrow.Author.Count.{below_more}
-use borrow.Author.Rules.{rules}
-use lib.ListN.{length, get_or}
+use lib.ListN.{get_or}
 use Rattle.params.specs.Parameters.{header_size}
-use Rattle.reader_items.proofs.Bytes.{header_differs, header-same}
 use Rattle.reader_items.proofs.sections.same_parameters.Given as goal
 
 abbrev pub invariant-loop-i : goal.invariant-loop-i

@@ -1,6 +1,5 @@
 -- `reader::state::answer_of` meets its contract.
 use mathlib.Core.Path.{sym, ◌∙◌}
-use borrow.Author.Rules.{rules}
 use Rattle.reader_model.specs.Model.{answer_of}
 use Rattle.reader_model.proofs.Choice.{taken, left}
 use Rattle.reader_items.proofs.state.answer_of.Goals as goal

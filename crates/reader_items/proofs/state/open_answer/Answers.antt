@@ -1,8 +1,6 @@
 -- `reader::state::open_answer` meets its contract.
-use native.Mathlib.Omega.{arith}
 use Rattle.reader_model.specs.Model.{open_answer}
 use Rattle.reader_model.proofs.Choice.{taken, left}
-use Rattle.reader_items.proofs.Laws.{place_bounds}
 use Rattle.reader_items.proofs.state.open_answer.Goals as goal
 
 pub returns-then-fill-start : goal.returns-then-fill-start

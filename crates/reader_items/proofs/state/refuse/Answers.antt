@@ -1,6 +1,5 @@
 -- `reader::state::refuse` meets its contract.
 use Rattle.reader_model.specs.Items.{refused}
-use borrow.Author.Rules.{rules}
 use Rattle.reader_items.proofs.state.refuse.Goals as goal
 
 pub returns : goal.returns

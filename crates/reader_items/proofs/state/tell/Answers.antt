@@ -1,6 +1,5 @@
 -- `reader_items::state::tell` meets its contract.
 use mathlib.Core.Path.{sym, ◌∙◌}
-use borrow.Author.Rules.{rules}
 use Rattle.reader_model.specs.Model.{told}
 use Rattle.reader_model.proofs.Choice.{taken, left}
 use Rattle.reader_items.proofs.state.tell.Goals as goal

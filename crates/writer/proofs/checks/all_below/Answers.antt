@@ -1,9 +1,5 @@
 -- `writer::checks::all_below` meets its contract: after i turns the first i coefficients are below the modulus.
-use Prim.Native.Nat.{◌≤◌, ◌-◌}
-use mathlib.Core.Path.{◌≡◌, refl}
 use borrow.Author.Rules.{rules}
-use lib.ListN.{length, drop}
-use Rattle.writer.specs.Writer.{all_below}
 use Rattle.writer.proofs.WriterLaws.{below_turn, below_fails, below_end}
 use Rattle.writer.proofs.checks.all_below.Goals as goal
 

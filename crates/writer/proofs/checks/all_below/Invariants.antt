@@ -1,9 +1,7 @@
 use Prim.Native.Nat.{◌≤◌, ◌-◌}
-use mathlib.Core.Path.{◌≡◌, refl}
-use borrow.Author.Rules.{rules}
+use mathlib.Core.Path.{◌≡◌}
 use lib.ListN.{length, drop}
 use Rattle.writer.specs.Writer.{all_below}
-use Rattle.writer.proofs.WriterLaws.{below_turn, below_fails, below_end}
 use Rattle.writer.proofs.checks.all_below.Given as goal
 
 abbrev pub invariant-loop-i : goal.invariant-loop-i

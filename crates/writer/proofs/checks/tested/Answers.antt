@@ -2,7 +2,6 @@
 use mathlib.Core.Bool.{not}
 use mathlib.Core.Path.{ap, sym, ◌∙◌}
 use native.Mathlib.Omega.{arith}
-use borrow.Author.Rules.{rules}
 use Rattle.params.proofs.ParameterLaws.{from_valid}
 use Rattle.params.proofs.AdmissionLaws.{admitted-valid}
 use Rattle.writer.proofs.WriterLaws.{first_count, first_size, not_admitted, wrong_count, not_below, few-numbers, few_bytes, short-output, none_fails, upheld, refuted}

@@ -1,7 +1,5 @@
 -- `writer::sections::file` meets its contract: its calls are the start, the layers and the end of the model, which is the built file.
-use mathlib.Core.Path.{◌∙◌}
 use native.Mathlib.Omega.{arith}
-use borrow.Author.Rules.{rules}
 use Rattle.params.specs.Parameters.{queries_offset, file_length}
 use Rattle.writer.proofs.SectionLaws.{final_inside, file-left}
 use Rattle.writer.proofs.sections.file.Goals as goal

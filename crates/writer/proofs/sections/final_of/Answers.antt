@@ -1,8 +1,4 @@
 -- `writer::sections::final_of` meets its contract: the first numbers fit in the array.
-use mathlib.Core.Path.{sym}
-use native.Mathlib.Omega.{arith}
-use borrow.Author.Rules.{rules}
-use lib.Seq.{length-take-le}
 use Rattle.writer.proofs.WriterLaws.{array_front}
 use Rattle.writer.proofs.sections.final_of.Goals as goal
 

@@ -1,8 +1,6 @@
 -- `writer::sections::finish` meets its contract: the count and the coefficients are put, and absorbed.
-use mathlib.Core.Path.{sym}
 use native.Mathlib.Omega.{arith}
 use borrow.Author.Rules.{rules}
-use lib.Seq.{length-take-le}
 use Rattle.params.specs.Parameters.{final_count}
 use Rattle.params.proofs.ParameterLaws.{final-small, from_valid}
 use Rattle.writer.proofs.SectionLaws.{finish_left}

@@ -1,6 +1,5 @@
 -- `writer_layers::layers::commit` meets its contract: the layer's values and its tree's place are parts of the lent buffers.
 use native.Mathlib.Omega.{arith}
-use borrow.Author.Rules.{rules}
 use Rattle.writer_layers.proofs.LayerLaws.{layer_fits, values_full, tree_ends, tree_full, root-left, tree_left}
 use Rattle.writer_layers.proofs.layers.commit.Goals as goal
 
@@ -40,6 +39,6 @@ returns c =
     let e = c.size_of-size.ensures.0 in
     let f = c.leaves_of.ensures.0 in
     let g = c.hash_layer.ensures in record {
-  value = root-left a.p a.layer s.requires.0 s.requires.1.0 e f a.bytes.now s.requires.1.1.1 a.numbers.now s.requires.1.1.0 g.value;
-  bytes_after = tree_left a.p a.layer s.requires.0 s.requires.1.0 e f a.bytes.now s.requires.1.1.1 a.numbers.now s.requires.1.1.0 g.space_after;
-}
+      value = root-left a.p a.layer s.requires.0 s.requires.1.0 e f a.bytes.now s.requires.1.1.1 a.numbers.now s.requires.1.1.0 g.value;
+      bytes_after = tree_left a.p a.layer s.requires.0 s.requires.1.0 e f a.bytes.now s.requires.1.1.1 a.numbers.now s.requires.1.1.0 g.space_after;
+    }

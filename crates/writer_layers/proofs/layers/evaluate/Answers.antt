@@ -4,8 +4,6 @@ use lib.Seq.{length-take-le}
 use mathlib.Core.Path.{sym}
 use Rattle.writer_layers.proofs.LayerLaws.{layer_fits, values-left}
 use borrow.Author.Rules.{rules}
-use Rattle.polynomial.proofs.values.Reads as values-reads
-use Rattle.writer_layers.proofs.sizes.count_of.Reads as count-of-reads
 use Rattle.writer_layers.proofs.layers.evaluate.Goals as goal
 
 pub slice_bounds-values-end : goal.slice_bounds-values-end

@@ -4,8 +4,6 @@ use lib.Seq.{length-take-le}
 use mathlib.Core.Path.{sym}
 use Rattle.writer_layers.proofs.LayerLaws.{layer_fits, count_fits, fold-left}
 use borrow.Author.Rules.{rules}
-use Rattle.polynomial.proofs.fold.Reads as fold-reads
-use Rattle.writer_layers.proofs.sizes.count_of.Reads as count-of-reads
 use Rattle.writer_layers.proofs.layers.fold.Goals as goal
 
 pub slice_bounds-fold-end : goal.slice_bounds-fold-end

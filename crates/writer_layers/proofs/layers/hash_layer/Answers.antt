@@ -1,5 +1,4 @@
 -- `writer_layers::layers::hash_layer` meets its contract: the leaves of a layer in front, then the tree over them.
-use borrow.Author.Rules.{rules}
 use Rattle.writer_layers.proofs.LayerLaws.{layer-hashed}
 use Rattle.writer_layers.proofs.layers.hash_layer.Goals as goal
 

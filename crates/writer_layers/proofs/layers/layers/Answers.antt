@@ -1,10 +1,7 @@
 -- `writer_layers::layers::layers` meets its contract: after j turns j layers are done.
-use Prim.Native.Nat.{◌≤◌, ◌-◌}
-use mathlib.Core.Path.{◌≡◌, refl}
+use mathlib.Core.Path.{refl}
 use borrow.Author.Rules.{rules}
-use lib.ListN.{length}
-use Rattle.writer_model.specs.Buffers.{buffers}
-use Rattle.writer_layers.proofs.StepLaws.{After, after_none, after_more, after_all}
+use Rattle.writer_layers.proofs.StepLaws.{after_none, after_more}
 use Rattle.writer_layers.proofs.layers.layers.Goals as goal
 
 pub loop-j-init : goal.loop-j-init

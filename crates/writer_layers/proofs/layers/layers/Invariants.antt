@@ -1,9 +1,8 @@
 use Prim.Native.Nat.{◌≤◌, ◌-◌}
-use mathlib.Core.Path.{◌≡◌, refl}
-use borrow.Author.Rules.{rules}
+use mathlib.Core.Path.{◌≡◌}
 use lib.ListN.{length}
 use Rattle.writer_model.specs.Buffers.{buffers}
-use Rattle.writer_layers.proofs.StepLaws.{After, after_none, after_more, after_all}
+use Rattle.writer_layers.proofs.StepLaws.{After}
 use Rattle.writer_layers.proofs.layers.layers.Given as goal
 
 abbrev pub invariant-loop-j : goal.invariant-loop-j

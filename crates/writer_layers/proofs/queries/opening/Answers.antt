@@ -1,6 +1,5 @@
 -- `writer_layers::queries::opening` meets its contract: a leaf's values and its path, one after the other.
 use native.Mathlib.Omega.{arith}
-use borrow.Author.Rules.{rules}
 use Rattle.writer_layers.proofs.LayerLaws.{layer_fits, leaves_full, tree_ends}
 use Rattle.writer_layers.proofs.QueryLaws.{opening_left}
 use Rattle.writer_layers.proofs.queries.opening.Goals as goal

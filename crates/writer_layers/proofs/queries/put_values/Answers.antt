@@ -1,14 +1,9 @@
 -- `writer_layers::queries::put_values` meets its contract: after r turns the first r values of the leaf stand in the file.
-use Prim.Native.Nat.{◌+◌, ◌*◌, ◌≤◌, ◌-◌}
-use mathlib.Core.Path.{◌≡◌, refl}
+use mathlib.Core.Path.{refl}
 use native.Mathlib.Omega.{arith}
 use borrow.Author.Rules.{rules}
-use lib.ListN.{length}
-use lib.Seq.{sets}
-use Rattle.message.specs.Bytes.{words}
-use Rattle.tree.specs.Tree.{values_of}
-use Rattle.tree.proofs.TreeLaws.{value-next, value_inside}
-use Rattle.writer_layers.proofs.QueryLaws.{values_none, values-more, values-done}
+use Rattle.tree.proofs.TreeLaws.{value-next}
+use Rattle.writer_layers.proofs.QueryLaws.{values_none, values-more}
 use Rattle.writer_layers.proofs.queries.put_values.Goals as goal
 
 pub loop-r-init : goal.loop-r-init

@@ -1,13 +1,9 @@
 use Prim.Native.Nat.{◌+◌, ◌*◌, ◌≤◌, ◌-◌}
-use mathlib.Core.Path.{◌≡◌, refl}
-use native.Mathlib.Omega.{arith}
-use borrow.Author.Rules.{rules}
+use mathlib.Core.Path.{◌≡◌}
 use lib.ListN.{length}
 use lib.Seq.{sets}
 use Rattle.message.specs.Bytes.{words}
 use Rattle.tree.specs.Tree.{values_of}
-use Rattle.tree.proofs.TreeLaws.{value-next, value_inside}
-use Rattle.writer_layers.proofs.QueryLaws.{values_none, values-more, values-done}
 use Rattle.writer_layers.proofs.queries.put_values.Given as goal
 
 abbrev pub invariant-loop-r : goal.invariant-loop-r

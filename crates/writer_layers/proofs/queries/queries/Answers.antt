@@ -1,12 +1,7 @@
 -- `writer_layers::queries::queries` meets its contract: after i turns i queries stand in the file.
-use Prim.Native.Nat.{◌≤◌, ◌-◌, ◌+◌, ◌*◌}
-use mathlib.Core.Path.{◌≡◌, refl}
-use native.Mathlib.Omega.{arith}
+use mathlib.Core.Path.{refl}
 use borrow.Author.Rules.{rules}
-use lib.ListN.{length}
-use lib.Seq.{sets}
-use Rattle.params.specs.Parameters.{query_length}
-use Rattle.writer_layers.proofs.QueryLaws.{opened, opened_none, opened-more, opened-done, query_room, query-next}
+use Rattle.writer_layers.proofs.QueryLaws.{opened_none, opened-more, opened-done, query-next}
 use Rattle.writer_layers.proofs.queries.queries.Goals as goal
 
 pub loop-i-init : goal.loop-i-init

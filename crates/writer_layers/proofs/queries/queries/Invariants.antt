@@ -1,11 +1,9 @@
 use Prim.Native.Nat.{◌≤◌, ◌-◌, ◌+◌, ◌*◌}
-use mathlib.Core.Path.{◌≡◌, refl}
-use native.Mathlib.Omega.{arith}
-use borrow.Author.Rules.{rules}
+use mathlib.Core.Path.{◌≡◌}
 use lib.ListN.{length}
 use lib.Seq.{sets}
 use Rattle.params.specs.Parameters.{query_length}
-use Rattle.writer_layers.proofs.QueryLaws.{opened, opened_none, opened-more, opened-done, query_room, query-next}
+use Rattle.writer_layers.proofs.QueryLaws.{opened}
 use Rattle.writer_layers.proofs.queries.queries.Given as goal
 
 abbrev pub invariant-loop-i : goal.invariant-loop-i

@@ -1,12 +1,10 @@
 -- `writer_layers::queries::query` meets its contract: after j turns the openings of j layers stand in the file.
-use Prim.Native.Nat.{◌≤◌, ◌-◌, ◌+◌}
-use mathlib.Core.Path.{◌≡◌, refl}
+use mathlib.Core.Path.{refl}
 use native.Mathlib.Omega.{arith}
 use borrow.Author.Rules.{rules}
 use lib.ListN.{length}
-use lib.Seq.{sets}
 use Rattle.params.specs.Parameters.{query_length}
-use Rattle.writer_layers.proofs.QueryLaws.{openings, openings_none, openings_more, openings_done, leaf-below, opening_room, opening_next}
+use Rattle.writer_layers.proofs.QueryLaws.{openings_none, openings_more, openings_done, leaf-below, opening_room, opening_next}
 use Rattle.writer_layers.proofs.queries.query.Goals as goal
 
 pub loop-j-init : goal.loop-j-init

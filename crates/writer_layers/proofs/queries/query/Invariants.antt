@@ -1,11 +1,9 @@
 use Prim.Native.Nat.{◌≤◌, ◌-◌, ◌+◌}
-use mathlib.Core.Path.{◌≡◌, refl}
-use native.Mathlib.Omega.{arith}
-use borrow.Author.Rules.{rules}
+use mathlib.Core.Path.{◌≡◌}
 use lib.ListN.{length}
 use lib.Seq.{sets}
 use Rattle.params.specs.Parameters.{query_length}
-use Rattle.writer_layers.proofs.QueryLaws.{openings, openings_none, openings_more, openings_done, leaf-below, opening_room, opening_next}
+use Rattle.writer_layers.proofs.QueryLaws.{openings}
 use Rattle.writer_layers.proofs.queries.query.Given as goal
 
 abbrev pub invariant-loop-j : goal.invariant-loop-j

@@ -1,6 +1,5 @@
 -- `writer_layers::sizes::leaves_of` meets its contract: a tree has 2 to its height leaves.
 use mathlib.Core.Path.{ap, ◌∙◌}
-use borrow.Author.Rules.{rules}
 use Prim.Native.Nat.{◌^◌}
 use Rattle.binary.proofs.BinaryLaws.{power_made}
 use Rattle.writer_layers.proofs.sizes.leaves_of.Goals as goal
