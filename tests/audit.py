@@ -36,7 +36,8 @@ WORDS = {"result", "tt"}  # its own words
 LEFT = {"new", "exit"}  # behind a parameter: what the call leaves in it
 TERMS = set("+ - * / % ^ ∷ [] ++".split())  # the signs that a term may have; any other sign is no term's
 EQUALITY = ("Rattle.std.specs.Prelude", "◌≡◌")
-ASSEMBLES = {"replied", "outcome", "buffer"}  # records made of their arguments: an equation of one pins every argument
+# records made of their arguments, with the files that define them: an equation of one pins every argument
+ASSEMBLES = {"replied": "Rattle.reader_model.specs.Model", "outcome": "Rattle.lent_reader.specs.Held"}
 OUTSIDE = set()  # public calls whose result no contract can pin: none
 BY_POWERS_OF_TWO = ["field", "felt", "fold"]  # their code, and what it calls, divides and takes remainders by nothing else (request 2026-03)
 WRAPPING = re.compile(r"wrapping_(add|sub)_u(8|16|32|64)")  # what that code may call of std::num
@@ -318,7 +319,7 @@ def pinned_by(left, call, fields):
         if is_lent(parameters(call).get(name, "")) and path[:1] == ["new"] and len(path) < 3:
             return [".".join([name, *path[1:]])]
         return None
-    if left and left[0] in ASSEMBLES:
+    if left and isinstance(left[0], str) and call.imports.get(left[0], ("", ""))[1] == ASSEMBLES.get(left[0], "none"):
         inner = [pinned_by([x], call, fields) for x in left[1:]]
         return None if None in inner else [p for found in inner for p in found]
     return None
@@ -418,6 +419,9 @@ def check_names():
     for path, text in texts.items():
         where = path.relative_to(ROOT)
         code = "\n".join(line for line in text.splitlines() if not re.match(r"use\b", line))
+        code = re.sub(r'(?<!\')"(?:[^"\\\n]|\\.)*"(?!\')', "string", code)
+        if '"' in code:
+            fault(where, "a string that the audit cannot read")
         for line in re.findall(r"^.*(?<![\w-])(?:use|open|package)(?![\w-]).*$|^.*\{-.*$", code, re.M):
             fault(where, f"a line that the audit cannot read: {line.strip()}")
         here = {n.strip("◌") for n, (root, _, _) in uses[path].items() if root in LIBRARY} | (PRELUDE & {"⊥", "absurd", "Unit", "tt", "Path"})

@@ -1,6 +1,7 @@
 -- Scripts: how a list of calls stands in the input, and what is written of it. An input or an output of which nothing is known says nothing.
-use Rattle.std.specs.Prelude.{◌≡◌, ℕ, ◌<◌, ◌+◌, ◌*◌, List, [], ◌∷◌, ◌++◌, map, length, decimal, get_or, codes}
-use Rattle.std.specs.declared.option.Option.{Option}
+use Rattle.std.specs.Prelude.{◌≡◌, ℕ, ◌<◌, ◌+◌, ◌*◌, List, [], ◌∷◌, ◌++◌, map, length, get_or, codes}
+use Rattle.std.specs.Prelude as library
+use Rattle.std.specs.declared.option.Option as rust
 use Rattle.std.specs.Io.KnownBytes.{Consumes, Appends}
 use Rattle.answer.specs.declared.Answer.{Answer}
 use Rattle.sha256.specs.Sha256.{sha256}
@@ -30,7 +31,7 @@ EncodesAll bytes (c ∷ cs) = (first rest : List ℕ) × Encodes first c × Enco
 
 -- `NUMBER PLACE` and a newline.
 abbrev pub answer_line : Answer → List ℕ
-answer_line a = decimal a.number ++ (32 ∷ (decimal a.place ++ (10 ∷ [])))
+answer_line a = library.decimal a.number ++ (32 ∷ (library.decimal a.place ++ (10 ∷ [])))
 
 -- What the model of the reader gives to a call.
 abbrev pub replied : Reader → Call → Reply
@@ -38,13 +39,13 @@ replied state (piece bytes) = pieced sha256 state bytes
 replied state end = ended state
 
 -- From what the input and the output were to what they are: a piece of so many bytes was taken, its line was written, and this state was left.
-abbrev pub RunsPiece : Option (List ℕ) → Option (List ℕ) → Option (List ℕ) → Option (List ℕ) → Reader → ℕ → Reader → Type 0
+abbrev pub RunsPiece : rust.Option (List ℕ) → rust.Option (List ℕ) → rust.Option (List ℕ) → rust.Option (List ℕ) → Reader → ℕ → Reader → Type 0
 RunsPiece before after old new state count next =
     (bytes : List ℕ) × (length bytes ≡ count) × Consumes before after bytes × (next ≡ (pieced sha256 state bytes).state)
     × Appends old new (answer_line (pieced sha256 state bytes).answer)
 
 -- The same of a call.
-abbrev pub RunsCall : Option (List ℕ) → Option (List ℕ) → Option (List ℕ) → Option (List ℕ) → Reader → Reader → Type 0
+abbrev pub RunsCall : rust.Option (List ℕ) → rust.Option (List ℕ) → rust.Option (List ℕ) → rust.Option (List ℕ) → Reader → Reader → Type 0
 RunsCall before after old new state next =
     (call : Call) × (bytes : List ℕ) × Encodes bytes call × Consumes before after bytes × (next ≡ (replied state call).state)
     × Appends old new (answer_line (replied state call).answer)
@@ -55,7 +56,7 @@ lines state [] = []
 lines state (c ∷ cs) = answer_line (replied state c).answer ++ lines (replied state c).state cs
 
 -- The same of so many calls.
-abbrev pub RunsCalls : Option (List ℕ) → Option (List ℕ) → Option (List ℕ) → Option (List ℕ) → Reader → ℕ → Type 0
+abbrev pub RunsCalls : rust.Option (List ℕ) → rust.Option (List ℕ) → rust.Option (List ℕ) → rust.Option (List ℕ) → Reader → ℕ → Type 0
 RunsCalls before after old new state count =
     (calls : List Call) × (bytes : List ℕ) × (length calls ≡ count) × EncodesAll bytes calls × Consumes before after bytes × Appends old new (lines state calls)
 
@@ -64,12 +65,12 @@ abbrev pub script_lines : Terms → List Call → List ℕ
 script_lines a calls = codes "open " ++ (answer_line (opened sha256 a).answer ++ joined (map answer_line (given (reader sha256 a) calls)))
 
 -- The same of an opening and so many calls.
-abbrev pub RunsOpened : Option (List ℕ) → Option (List ℕ) → Option (List ℕ) → Option (List ℕ) → Terms → ℕ → Type 0
+abbrev pub RunsOpened : rust.Option (List ℕ) → rust.Option (List ℕ) → rust.Option (List ℕ) → rust.Option (List ℕ) → Terms → ℕ → Type 0
 RunsOpened before after old new a count =
     (calls : List Call) × (bytes : List ℕ) × (length calls ≡ count) × EncodesAll bytes calls × Consumes before after bytes × Appends old new (script_lines a calls)
 
 -- The same of a script: what the opening is asked for stands before the number of calls.
-abbrev pub RunsScript : Option (List ℕ) → Option (List ℕ) → Option (List ℕ) → Option (List ℕ) → Type 0
+abbrev pub RunsScript : rust.Option (List ℕ) → rust.Option (List ℕ) → rust.Option (List ℕ) → rust.Option (List ℕ) → Type 0
 RunsScript before after old new =
     (header context size bytes : List ℕ) × (calls : List Call)
     × (length header ≡ header_size) × (length context ≡ 32) × (length size ≡ 2) × (length calls ≡ number_in size) × EncodesAll bytes calls

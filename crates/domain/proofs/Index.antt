@@ -1,5 +1,5 @@
 -- Indices in a layer. The index of layer j is m mod 2^(n−1−j), where m is the drawn leaf, the index of layer 0. Assumes nothing.
-use Prim.Native.Nat.{ℕ, suc, ◌+◌, ◌*◌, ◌^◌, ◌%◌, ◌-◌, ◌<◌, ◌≤◌}
+use Prim.Native.Nat.{ℕ, suc, ◌+◌, ◌^◌, ◌%◌, ◌-◌, ◌<◌, ◌≤◌}
 use mathlib.Core.Path.{◌≡◌, ap, sym, ◌∙◌}
 use native.Mathlib.Nat.{pow-suc, pow-zero, mod-eq_of_lt, mod-lt, mod-one, mod-eq-sub-mod}
 use native.Mathlib.Omega.{arith}

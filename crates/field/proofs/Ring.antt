@@ -1,7 +1,7 @@
 -- How to prove an equation of modular expressions: write both sides as an `Expr`, and say by which multiple of p the plain polynomials differ, in which a
 -- difference is a sum with p − 1 times the number. `omega` proves that equation, since it multiplies products out.
 -- Assumes nothing.
-use Rattle.std.proofs.Common.{◌≡◌, ℕ, ◌+◌, ◌-◌, ◌*◌, ◌%◌, ◌<◌, sym, refl, ap, ◌∙◌, mod-eq_of_lt}
+use Rattle.std.proofs.Common.{◌≡◌, ℕ, ◌+◌, ◌*◌, ◌%◌, ◌<◌, sym, refl, ap, ◌∙◌, mod-eq_of_lt}
 use native.Mathlib.Nat.{mod-mod, mod-add-mod, add-mod-mod, add-mul-mod_self_left}
 use Rattle.field.specs.Modular.{p, add_mod, sub_mod, mul_mod, neg_mod}
 use Rattle.field.proofs.Remainder.{mod_mul, mul_mod_lem}

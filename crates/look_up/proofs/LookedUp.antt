@@ -13,10 +13,9 @@ use Rattle.message.specs.Message.{Digest}
 use Rattle.message.proofs.Bytes.{Sized, sized, le-length, part_at, part-part, joined_at, joined_length}
 use Rattle.message.proofs.MessageLaws.{words-length}
 use Rattle.params.specs.declared.Params.{Params}
-use Rattle.params.specs.Parameters.{Valid, header_size, header, final_count, opening_length, query_length, queries_offset, opening_offset, file_length}
+use Rattle.params.specs.Parameters.{header_size, header, final_count, opening_length, query_length, queries_offset, opening_offset, file_length}
 use Rattle.params.specs.Admission.{admission, Admitted}
 use Rattle.params.specs.declared.Terms.{Terms}
-use Rattle.params.proofs.AdmissionLaws.{admits_true}
 use Rattle.fri.specs.Encoding.{Opening, Proof, no_opening, opening_at, opening_bytes, query_bytes, encode, IsOpening, HasLayout}
 use Rattle.fri.specs.Judge.{verdict}
 use Rattle.fri.specs.Accepted.{Accepted}

@@ -1,6 +1,6 @@
 -- Parts of a buffer into which something was stored: what was stored, and the parts before and after it. `part i n xs` is the n elements of xs from
 -- index i on, and `sets l at vs` is the list l with vs stored from index at on. Assumes nothing.
-use Prim.Native.Nat.{ℕ, suc, ◌+◌, ◌-◌, ◌≤◌, ◌<◌}
+use Prim.Native.Nat.{ℕ, suc, ◌+◌, ◌-◌, ◌≤◌}
 use mathlib.Core.List.{List, [], ◌∷◌, ◌++◌, append_assoc, append-nil}
 use mathlib.Core.Path.{◌≡◌, refl, sym, ap, ◌∙◌}
 use native.Mathlib.Omega.{arith}

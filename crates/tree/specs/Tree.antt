@@ -1,6 +1,6 @@
 -- A Merkle tree in lent bytes: the digests of a layer's leaves, the tree over digests, whose rows stand one after the other with the root last, and
 -- the path of a leaf read from there.
-use Rattle.std.specs.Prelude.{ℕ, zero, suc, ◌+◌, ◌*◌, ◌^◌, ◌-◌, ◌/◌, ◌%◌, Bool, ◌&&◌, cond, List, [], ◌∷◌, ◌++◌, eqb, leb, ltb, length, drop, get_or, replicate}
+use Rattle.std.specs.Prelude.{ℕ, zero, suc, ◌+◌, ◌*◌, ◌^◌, ◌-◌, ◌/◌, ◌%◌, Bool, ◌&&◌, cond, List, [], ◌++◌, eqb, leb, ltb, length, drop, get_or, replicate}
 use Rattle.message.specs.Bytes.{joined, part}
 use Rattle.message.specs.Message.{Digest}
 use Rattle.merkle.specs.Merkle.{leaf_digest, digests, above, root_of, sibling}

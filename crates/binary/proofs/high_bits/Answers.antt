@@ -1,10 +1,6 @@
 -- `binary::high_bits` meets its contract.
-use Prim.Native.Nat.{◌/◌}
-use mathlib.Core.Path.{ap}
-use native.Mathlib.Omega.{arith}
-use native.Mathlib.Nat.{div-le_self}
 use borrow.Author.Rules.{rules}
-use Rattle.binary.proofs.BinaryLaws.{power_is, power_divides, high_none}
+use Rattle.binary.proofs.BinaryLaws.{high_none}
 use Rattle.binary.proofs.high_bits.Goals as goal
 
 pub returns-else-bits-lt32 : goal.returns-else-bits-lt32

@@ -1,5 +1,4 @@
 -- `binary::power_of_two` meets its contract.
-use borrow.Author.Rules.{rules}
 use Rattle.binary.proofs.BinaryLaws.{power_none}
 use Rattle.binary.proofs.power_of_two.Goals as goal
 

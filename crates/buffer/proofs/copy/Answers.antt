@@ -1,9 +1,5 @@
 -- `buffer::copy` meets its contract: after i turns the first i elements of the part are stored.
-use Prim.Native.Nat.{◌≤◌, ◌-◌}
-use mathlib.Core.Path.{◌≡◌, refl}
-use lib.ListN.{length, take}
-use lib.Seq.{sets}
-use Rattle.buffer.proofs.BufferLaws.{copy_more, copy_done}
+use Rattle.buffer.proofs.BufferLaws.{copy_more}
 use borrow.Author.Rules.{rules}
 use Rattle.buffer.proofs.copy.Goals as goal
 

@@ -1,9 +1,5 @@
 -- `buffer::copy_numbers` meets its contract: after i turns the first i elements of the part are stored.
-use Prim.Native.Nat.{◌≤◌, ◌-◌}
-use mathlib.Core.Path.{◌≡◌, refl}
-use lib.ListN.{length, take}
-use lib.Seq.{sets}
-use Rattle.buffer.proofs.BufferLaws.{copy_done, front_more}
+use Rattle.buffer.proofs.BufferLaws.{front_more}
 use borrow.Author.Rules.{rules}
 use Rattle.buffer.proofs.copy_numbers.Goals as goal
 

@@ -2,7 +2,6 @@
 use mathlib.Core.Path.{sym, ◌∙◌}
 use native.Mathlib.Omega.{arith}
 use Rattle.buffer.proofs.BufferLaws.{put-fits, put-stays}
-use borrow.Author.Rules.{rules}
 use Rattle.buffer.proofs.put.Goals as goal
 
 pub returns-then-part-buffer : goal.returns-then-part-buffer

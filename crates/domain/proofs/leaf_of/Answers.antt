@@ -1,6 +1,5 @@
 -- `domain::leaf_of` meets its contract.
 use Rattle.domain.proofs.Index.{leaf_none, leaf_made}
-use borrow.Author.Rules.{rules}
 use Rattle.domain.proofs.leaf_of.Goals as goal
 
 pub returns-then-n-layer : goal.returns-then-n-layer

@@ -1,9 +1,9 @@
 -- `domain::point` meets its contract: after j turns both generators are at their power 2^j.
-use Prim.Native.Nat.{ℕ, ◌≤◌, ◌-◌, ◌^◌}
+use Prim.Native.Nat.{ℕ}
 use mathlib.Core.Path.{◌≡◌, ◌∙◌, ap}
 use native.Mathlib.Omega.{arith}
 use lib.Dec.{lit<}
-use Rattle.field.specs.Modular.{pow_mod, generator, subgroup_generator}
+use Rattle.field.specs.Modular.{generator}
 use Rattle.domain.specs.Domain.{point}
 use Rattle.domain.proofs.DomainLaws.{subgroup_lt, power_start, power_square, point_powers}
 use borrow.Author.Rules.{rules}

@@ -1,11 +1,6 @@
-use Prim.Native.Nat.{ℕ, ◌≤◌, ◌-◌, ◌^◌}
-use mathlib.Core.Path.{◌≡◌, ◌∙◌, ap}
-use native.Mathlib.Omega.{arith}
-use lib.Dec.{lit<}
+use Prim.Native.Nat.{◌≤◌, ◌-◌, ◌^◌}
+use mathlib.Core.Path.{◌≡◌}
 use Rattle.field.specs.Modular.{pow_mod, generator, subgroup_generator}
-use Rattle.domain.specs.Domain.{point}
-use Rattle.domain.proofs.DomainLaws.{subgroup_lt, power_start, power_square, point_powers}
-use borrow.Author.Rules.{rules}
 use Rattle.domain.proofs.point.Given as goal
 
 abbrev pub invariant-loop-j : goal.invariant-loop-j

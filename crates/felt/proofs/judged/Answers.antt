@@ -1,6 +1,5 @@
 -- `judged` meets its contract: `checked` by whether the argument is below p.
 use mathlib.Core.Path.{sym, ◌∙◌}
-use borrow.Author.Rules.{rules}
 use Rattle.felt.proofs.CheckedLaws.{refused, passed}
 use Rattle.felt.proofs.judged.Goals as goal
 

@@ -1,6 +1,5 @@
 -- `judged_both` meets its contract: the second argument is judged only where the first is below p.
 use mathlib.Core.Path.{sym, ◌∙◌}
-use borrow.Author.Rules.{rules}
 use Rattle.felt.proofs.CheckedLaws.{refused, passed}
 use Rattle.felt.proofs.judged_both.Goals as goal
 

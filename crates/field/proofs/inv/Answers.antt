@@ -1,5 +1,4 @@
 -- `inv` meets its contract: the definition is this power.
-use Rattle.std.proofs.Common.{rules}
 use Rattle.field.specs.Modular.{inv_mod}
 use Rattle.field.proofs.inv.Goals as goal
 

@@ -1,6 +1,5 @@
 -- `mul_add` meets its contract: a product of two 32-bit numbers and a third number fit in 64 bits.
-use Rattle.std.proofs.Common.{◌∙◌, rules}
-use Rattle.field.proofs.Remainder.{product_fits, product_and_number_fit}
+use Rattle.std.proofs.Common.{◌∙◌}
 use Rattle.field.proofs.Reduction.{product_and_number}
 use Rattle.field.proofs.mul_add.Goals as goal
 

@@ -1,5 +1,5 @@
 -- `pow` meets its contract: it starts the rules with 1 multiplied so far.
-use Rattle.std.proofs.Common.{◌∙◌, rules}
+use Rattle.std.proofs.Common.{◌∙◌}
 use Rattle.field.proofs.Laws.{power_from_one}
 use Rattle.field.proofs.pow.Goals as goal
 

@@ -1,6 +1,5 @@
 -- `fold::agrees` meets its contract.
 use Rattle.fold.specs.Fold.{agrees}
-use borrow.Author.Rules.{rules}
 use Rattle.fold.proofs.agrees.Goals as goal
 
 pub returns : goal.returns

@@ -1,9 +1,6 @@
 -- `fold::horner` meets its contract: after the turn at i the value is that of the coefficients from i on.
-use Prim.Native.Nat.{◌≤◌}
-use mathlib.Core.Path.{◌≡◌, ◌∙◌}
-use lib.ListN.{take, drop}
-use Rattle.fold.specs.Poly.{eval}
-use Rattle.fold.proofs.PolyLaws.{horner_start, horner_turn, horner_end, horner_last}
+use mathlib.Core.Path.{◌∙◌}
+use Rattle.fold.proofs.PolyLaws.{horner_start, horner_turn, horner_last}
 use borrow.Author.Rules.{rules}
 use Rattle.fold.proofs.horner.Goals as goal
 

@@ -1,9 +1,7 @@
 use Prim.Native.Nat.{◌≤◌}
-use mathlib.Core.Path.{◌≡◌, ◌∙◌}
+use mathlib.Core.Path.{◌≡◌}
 use lib.ListN.{take, drop}
 use Rattle.fold.specs.Poly.{eval}
-use Rattle.fold.proofs.PolyLaws.{horner_start, horner_turn, horner_end, horner_last}
-use borrow.Author.Rules.{rules}
 use Rattle.fold.proofs.horner.Given as goal
 
 abbrev pub invariant-loop-i : goal.invariant-loop-i

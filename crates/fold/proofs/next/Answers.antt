@@ -1,6 +1,5 @@
 -- `fold::next` meets its contract: it composes the field's functions as the definition does.
 use Rattle.fold.specs.Fold.{next}
-use borrow.Author.Rules.{rules}
 use Rattle.fold.proofs.next.Goals as goal
 
 pub returns : goal.returns

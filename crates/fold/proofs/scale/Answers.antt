@@ -1,6 +1,5 @@
 -- `fold::scale` meets its contract: twice the point is its sum with itself.
 use mathlib.Core.Path.{◌∙◌, sym}
-use borrow.Author.Rules.{rules}
 use Rattle.field.proofs.Laws.{mul_mod_two}
 use Rattle.fold.proofs.scale.Goals as goal
 

@@ -1,4 +1,3 @@
-use borrow.Author.Rules.{rules}
 use Rattle.look_up.proofs.LookUpLaws.{found_test}
 use Rattle.look_up.proofs.is_found.Goals as goal
 

@@ -1,4 +1,3 @@
-use borrow.Author.Rules.{rules}
 use Rattle.look_up.proofs.LookUpLaws.{span_answer}
 use Rattle.look_up.proofs.look_up_answer.Goals as goal
 

@@ -1,5 +1,4 @@
 use native.Mathlib.Omega.{arith}
-use borrow.Author.Rules.{rules}
 use Rattle.look_up.proofs.LookUpLaws.{cut_within, cut_part, cut_place}
 use Rattle.look_up.proofs.look_up_part.Goals as goal
 

@@ -1,6 +1,5 @@
 use mathlib.Core.Path.{sym, ◌∙◌}
 use native.Mathlib.Omega.{arith}
-use borrow.Author.Rules.{rules}
 use Rattle.look_up.proofs.LookUpLaws.{found_facts, span_found, span_none}
 use Rattle.look_up.proofs.look_up_span.Goals as goal
 

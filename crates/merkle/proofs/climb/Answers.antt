@@ -1,11 +1,7 @@
 -- `merkle::climb` meets its contract: after i turns the node is that of height i.
-use mathlib.Core.Path.{◌≡◌}
-use Prim.Native.Nat.{◌≤◌, ◌-◌, ◌*◌, ◌+◌}
-use lib.ListN.{drop}
+use Prim.Native.Nat.{◌-◌, ◌*◌, ◌+◌}
 use native.Mathlib.Omega.{arith}
-use Rattle.sha256.specs.Sha256.{sha256}
-use Rattle.merkle.specs.Merkle as spec
-use Rattle.merkle.proofs.MerkleLaws.{climb-start, climb_turn, climb-end}
+use Rattle.merkle.proofs.MerkleLaws.{climb_turn, climb-end}
 use borrow.Author.Rules.{rules}
 use Rattle.merkle.proofs.climb.Goals as goal
 

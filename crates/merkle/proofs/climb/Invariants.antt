@@ -1,11 +1,8 @@
 use mathlib.Core.Path.{◌≡◌}
-use Prim.Native.Nat.{◌≤◌, ◌-◌, ◌*◌, ◌+◌}
+use Prim.Native.Nat.{◌≤◌, ◌-◌, ◌*◌}
 use lib.ListN.{drop}
-use native.Mathlib.Omega.{arith}
 use Rattle.sha256.specs.Sha256.{sha256}
 use Rattle.merkle.specs.Merkle as spec
-use Rattle.merkle.proofs.MerkleLaws.{climb-start, climb_turn, climb-end}
-use borrow.Author.Rules.{rules}
 use Rattle.merkle.proofs.climb.Given as goal
 
 abbrev pub invariant-loop-i : goal.invariant-loop-i

@@ -1,9 +1,6 @@
 -- `message::first_number` meets its contract.
 use borrow.Author.Rules.{rules}
 use Rattle.message.proofs.Bytes.{four_read}
-use Rattle.message.proofs.first_number.Reads as reads
-use Rattle.message.proofs.first_number.Lts as lts
-use Rattle.message.proofs.wide.Reads as wide-reads
 use Rattle.message.proofs.first_number.Goals as goal
 
 -- src/lib.rt:31:1

@@ -1,9 +1,6 @@
 -- `message::number_bytes` meets its contract.
 use mathlib.Core.Path.{refl}
-use borrow.Author.Rules.{rules}
 use Rattle.message.specs.Bytes.{le}
-use Rattle.message.proofs.number_bytes.Reads as reads
-use Rattle.message.proofs.number_bytes.Lts as lts
 use Rattle.message.proofs.number_bytes.Goals as goal
 
 -- src/lib.rt:13:1

@@ -1,6 +1,5 @@
 -- `message::put_count` meets its contract: the bytes that are put are the number's, low byte first.
 use Rattle.message.specs.Bytes.{le}
-use borrow.Author.Rules.{rules}
 use Rattle.message.proofs.put_count.Goals as goal
 
 pub returns : goal.returns

@@ -3,7 +3,6 @@ use mathlib.Core.Path.{sym, ◌∙◌}
 use native.Mathlib.Omega.{arith}
 use Rattle.buffer.proofs.BufferLaws.{put-fits, put-stays}
 use Rattle.message.proofs.MessageLaws.{words-length}
-use borrow.Author.Rules.{rules}
 use Rattle.message.proofs.put_words.Goals as goal
 
 pub returns-then-values-buffer : goal.returns-then-values-buffer

@@ -2,8 +2,7 @@
 use mathlib.Core.Path.{refl, sym}
 use native.Mathlib.Omega.{arith}
 use lib.ListN.{replicate}
-use Rattle.message.proofs.MessageLaws.{tagged_long, buffer_long, part_long, buffer_hash}
-use borrow.Author.Rules.{rules}
+use Rattle.message.proofs.MessageLaws.{tagged_long, buffer_hash}
 use Rattle.message.proofs.tagged_hash.Goals as goal
 
 pub returns-then-a-b-gt288 : goal.returns-then-a-b-gt288

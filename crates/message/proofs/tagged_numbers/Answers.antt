@@ -4,8 +4,7 @@ use mathlib.Core.Path.{refl, sym}
 use lib.ListN.{length, replicate}
 use native.Mathlib.Omega.{arith}
 use Rattle.message.specs.Bytes.{words}
-use Rattle.message.proofs.MessageLaws.{words-length, tagged_long, buffer_long, part_long, buffer_hash}
-use borrow.Author.Rules.{rules}
+use Rattle.message.proofs.MessageLaws.{words-length, tagged_long, buffer_hash}
 use Rattle.message.proofs.tagged_numbers.Goals as goal
 
 pub returns-then-a-values-gt288 : goal.returns-then-a-values-gt288

@@ -1,12 +1,9 @@
 -- `message::write_words` meets its contract: after i turns the first i numbers are stored.
-use Prim.Native.Nat.{◌≤◌, ◌-◌}
-use mathlib.Core.Path.{◌≡◌, refl}
+use mathlib.Core.Path.{refl}
 use borrow.Author.Rules.{rules}
 use native.Mathlib.Omega.{arith}
-use lib.ListN.{length, take}
-use lib.Seq.{sets}
 use Rattle.message.specs.Bytes.{words, joined}
-use Rattle.message.proofs.MessageLaws.{words_more, words-done}
+use Rattle.message.proofs.MessageLaws.{words_more}
 use Rattle.message.proofs.write_words.Goals as goal
 
 pub loop-i-init : goal.loop-i-init

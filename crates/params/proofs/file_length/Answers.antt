@@ -1,6 +1,6 @@
 -- `params::file_length` meets its contract.
 use Rattle.params.specs.Parameters.{queries_offset, file_length}
-use Rattle.params.proofs.ParameterLaws.{tested, when_valid, when_not, from_valid, lengths_more, offset_small, product_small}
+use Rattle.params.proofs.ParameterLaws.{tested, when_valid, from_valid, lengths_more, offset_small, product_small}
 use native.Mathlib.Omega.{arith}
 use borrow.Author.Rules.{rules}
 use Rattle.params.proofs.file_length.Goals as goal

@@ -1,7 +1,6 @@
 -- `params::final_count` meets its contract.
-use Rattle.params.proofs.ParameterLaws.{tested, when_valid, when_not, final_made}
+use Rattle.params.proofs.ParameterLaws.{tested, when_valid, final_made}
 use native.Mathlib.Omega.{arith}
-use borrow.Author.Rules.{rules}
 use Rattle.params.proofs.final_count.Goals as goal
 
 pub overflow_sub-bits : goal.overflow_sub-bits

@@ -2,7 +2,6 @@
 use mathlib.Core.Path.{refl, ap₂}
 use mathlib.Core.Bool.{◌&&◌}
 use Rattle.params.specs.Parameters.{valid}
-use borrow.Author.Rules.{rules}
 use Rattle.params.proofs.is_valid.Goals as goal
 
 pub returns : goal.returns

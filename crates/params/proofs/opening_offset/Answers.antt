@@ -2,7 +2,7 @@
 use Prim.Native.Nat.{◌+◌, ◌<◌}
 use mathlib.Core.Path.{ap₂}
 use Rattle.params.specs.Parameters.{queries_offset, opening_offset}
-use Rattle.params.proofs.ParameterLaws.{tested, when_valid, when_not, from_valid, lengths_more, offset_small, product_small, query-small}
+use Rattle.params.proofs.ParameterLaws.{tested, when_valid, from_valid, lengths_more, offset_small, product_small, query-small}
 use native.Mathlib.Omega.{arith}
 use borrow.Author.Rules.{rules}
 use Rattle.params.proofs.opening_offset.Goals as goal

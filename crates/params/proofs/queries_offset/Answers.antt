@@ -1,8 +1,7 @@
 -- `params::queries_offset` meets its contract.
 use Rattle.params.specs.Parameters.{query_count_offset, queries_offset}
-use Rattle.params.proofs.ParameterLaws.{tested, when_valid, when_not, from_valid, final-small}
+use Rattle.params.proofs.ParameterLaws.{tested, when_valid, from_valid, final-small}
 use native.Mathlib.Omega.{arith}
-use borrow.Author.Rules.{rules}
 use Rattle.params.proofs.queries_offset.Goals as goal
 
 pub overflow_add-result : goal.overflow_add-result

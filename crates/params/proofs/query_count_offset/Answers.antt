@@ -1,8 +1,7 @@
 -- `params::query_count_offset` meets its contract.
 use Rattle.params.specs.Parameters.{final_count}
-use Rattle.params.proofs.ParameterLaws.{tested, when_valid, when_not, from_valid, final-small}
+use Rattle.params.proofs.ParameterLaws.{tested, from_valid, final-small}
 use native.Mathlib.Omega.{arith}
-use borrow.Author.Rules.{rules}
 use Rattle.params.proofs.query_count_offset.Goals as goal
 
 pub overflow_mul-result : goal.overflow_mul-result

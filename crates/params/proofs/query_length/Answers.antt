@@ -1,6 +1,6 @@
 -- `params::query_length` meets its contract: after j turns the sum has the first j layers.
-use Prim.Native.Nat.{◌≤◌, ◌<◌, ◌-◌}
-use mathlib.Core.Path.{◌≡◌, refl, ◌∙◌, ap}
+use Prim.Native.Nat.{◌<◌}
+use mathlib.Core.Path.{refl}
 use native.Mathlib.Omega.{arith}
 use Rattle.params.specs.Parameters.{query_length}
 use Rattle.params.proofs.ParameterLaws.{query-more, query-small}

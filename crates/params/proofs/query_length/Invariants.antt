@@ -1,9 +1,6 @@
-use Prim.Native.Nat.{◌≤◌, ◌<◌, ◌-◌}
-use mathlib.Core.Path.{◌≡◌, refl, ◌∙◌, ap}
-use native.Mathlib.Omega.{arith}
+use Prim.Native.Nat.{◌≤◌, ◌-◌}
+use mathlib.Core.Path.{◌≡◌}
 use Rattle.params.specs.Parameters.{query_length}
-use Rattle.params.proofs.ParameterLaws.{query-more, query-small}
-use borrow.Author.Rules.{rules}
 use Rattle.params.proofs.query_length.Given as goal
 
 abbrev pub invariant-loop-j : goal.invariant-loop-j

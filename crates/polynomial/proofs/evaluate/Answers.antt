@@ -1,10 +1,7 @@
 -- `polynomial::evaluate` meets its contract: after i turns the values at the first i points stand from index size on, and x is point i.
-use Prim.Native.Nat.{◌*◌, ◌-◌, ◌≤◌}
-use mathlib.Core.Path.{◌≡◌, ◌∙◌}
+use mathlib.Core.Path.{◌∙◌}
 use borrow.Author.Rules.{rules}
-use lib.ListN.{length}
-use Rattle.domain.specs.Domain.{point}
-use Rattle.polynomial.proofs.PolynomialLaws.{point-next, stored, values-start, values_turn, values-end}
+use Rattle.polynomial.proofs.PolynomialLaws.{point-next, values-start, values_turn, values-end}
 use Rattle.polynomial.proofs.evaluate.Goals as goal
 
 pub loop-i-init : goal.loop-i-init

@@ -1,9 +1,8 @@
 use Prim.Native.Nat.{◌*◌, ◌-◌, ◌≤◌}
-use mathlib.Core.Path.{◌≡◌, ◌∙◌}
-use borrow.Author.Rules.{rules}
+use mathlib.Core.Path.{◌≡◌}
 use lib.ListN.{length}
 use Rattle.domain.specs.Domain.{point}
-use Rattle.polynomial.proofs.PolynomialLaws.{point-next, stored, values-start, values_turn, values-end}
+use Rattle.polynomial.proofs.PolynomialLaws.{stored}
 use Rattle.polynomial.proofs.evaluate.Given as goal
 
 abbrev pub invariant-loop-i : goal.invariant-loop-i

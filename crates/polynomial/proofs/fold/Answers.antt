@@ -1,11 +1,6 @@
 -- `polynomial::fold` meets its contract: after i turns the fold of the first 2·i coefficients stands over the first i.
-use Prim.Native.Nat.{◌*◌, ◌-◌, ◌≤◌}
-use mathlib.Core.List.{◌++◌}
-use mathlib.Core.Path.{◌≡◌}
 use native.Mathlib.Omega.{arith}
 use borrow.Author.Rules.{rules}
-use lib.ListN.{length, take, drop}
-use Rattle.fold.specs.Poly.{fold}
 use Rattle.polynomial.proofs.PolynomialLaws.{fold_start, fold_turn, fold_end, fold_none}
 use Rattle.polynomial.proofs.fold.Goals as goal
 

@@ -1,5 +1,4 @@
 -- `polynomial::values` meets its contract: what fails a test is no room and stays.
-use native.Mathlib.Omega.{arith}
 use borrow.Author.Rules.{rules}
 use Rattle.polynomial.proofs.PolynomialLaws.{size_made, no_layer, no_domain, no_count, no_size}
 use Rattle.polynomial.proofs.values.Goals as goal

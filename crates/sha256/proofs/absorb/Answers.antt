@@ -1,11 +1,8 @@
 -- `sha256::absorb` meets its contract. The loop's invariant: the hash value is that after i blocks.
-use mathlib.Core.Path.{◌≡◌, refl, ap, ◌∙◌}
-use Prim.Native.Nat.{◌+◌, ◌-◌, ◌/◌, ◌≤◌}
+use mathlib.Core.Path.{refl}
 use native.Mathlib.Omega.{arith}
-use borrow.Author.Rules.{rules}
-use lib.ListN.{length}
 use Rattle.sha256.specs.Constants.{initial_hash, round_constants}
-use Rattle.sha256.specs.Sha256.{absorb, pad}
+use Rattle.sha256.specs.Sha256.{absorb}
 use Rattle.sha256.proofs.RoundLaws.{absorb-more}
 use Rattle.sha256.proofs.absorb.Goals as goal
 

@@ -1,11 +1,7 @@
-use mathlib.Core.Path.{◌≡◌, refl, ap, ◌∙◌}
+use mathlib.Core.Path.{◌≡◌}
 use Prim.Native.Nat.{◌+◌, ◌-◌, ◌/◌, ◌≤◌}
-use native.Mathlib.Omega.{arith}
-use borrow.Author.Rules.{rules}
 use lib.ListN.{length}
-use Rattle.sha256.specs.Constants.{initial_hash, round_constants}
 use Rattle.sha256.specs.Sha256.{absorb, pad}
-use Rattle.sha256.proofs.RoundLaws.{absorb-more}
 use Rattle.sha256.proofs.absorb.Given as goal
 
 abbrev pub invariant-loop-i : goal.invariant-loop-i

@@ -1,6 +1,5 @@
 -- `sha256::add_words` meets its contract: each word is the sum that `add2` ensures.
 use Rattle.sha256.specs.Sha256.{add_words}
-use borrow.Author.Rules.{rules}
 use Rattle.sha256.proofs.Build.{eight}
 use Rattle.sha256.proofs.add_words.Goals as goal
 

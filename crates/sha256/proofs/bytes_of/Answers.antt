@@ -1,9 +1,7 @@
 -- `sha256::bytes_of` meets its contract. The loop's invariant: the first i bytes are those of the words.
-use Prim.Native.Nat.{◌-◌, ◌*◌, ◌/◌, ◌%◌, ◌^◌}
 use native.Mathlib.Omega.{arith}
-use lib.ListN.{get_or}
 use Rattle.sha256.specs.Sha256.{bytes_of}
-use Rattle.sha256.proofs.Build.{Filled, filled_none, filled_more, filled_all}
+use Rattle.sha256.proofs.Build.{filled_none, filled_more, filled_all}
 use Rattle.sha256.proofs.bytes_of.Goals as goal
 
 pub loop-i-init : goal.loop-i-init

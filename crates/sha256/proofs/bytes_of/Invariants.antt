@@ -1,8 +1,6 @@
 use Prim.Native.Nat.{◌-◌, ◌*◌, ◌/◌, ◌%◌, ◌^◌}
-use native.Mathlib.Omega.{arith}
 use lib.ListN.{get_or}
-use Rattle.sha256.specs.Sha256.{bytes_of}
-use Rattle.sha256.proofs.Build.{Filled, filled_none, filled_more, filled_all}
+use Rattle.sha256.proofs.Build.{Filled}
 use Rattle.sha256.proofs.bytes_of.Given as goal
 
 abbrev pub invariant-loop-i : goal.invariant-loop-i

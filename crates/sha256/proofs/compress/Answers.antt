@@ -1,6 +1,5 @@
 -- `sha256::compress` meets its contract, from what its callees ensure.
 use Rattle.sha256.proofs.RoundLaws.{compress_is}
-use borrow.Author.Rules.{rules}
 use Rattle.sha256.proofs.compress.Goals as goal
 
 pub returns : goal.returns

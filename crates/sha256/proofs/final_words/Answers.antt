@@ -1,6 +1,5 @@
 -- `sha256::final_words` meets its contract, by the message's length.
 use native.Mathlib.Omega.{arith}
-use borrow.Author.Rules.{rules}
 use Rattle.sha256.proofs.HashLaws.{words-short, words_long}
 use Rattle.sha256.proofs.final_words.Goals as goal
 

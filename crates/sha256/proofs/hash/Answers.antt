@@ -1,5 +1,4 @@
 -- `sha256::hash` meets its contract, from what its callees ensure.
-use borrow.Author.Rules.{rules}
 use Rattle.sha256.proofs.HashLaws.{answer}
 use Rattle.sha256.proofs.hash.Goals as goal
 

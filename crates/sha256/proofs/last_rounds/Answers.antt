@@ -1,11 +1,7 @@
 -- `sha256::last_rounds` meets its contract. The loop's invariant: n is a multiple of 8, and the state is that after 48 + n rounds, whatever schedule
 -- and hash value it is.
-use mathlib.Core.Path.{◌≡◌, refl, ap, ◌∙◌}
-use mathlib.Core.List.{List}
-use Prim.Native.Nat.{ℕ, ◌+◌, ◌-◌, ◌%◌, ◌≤◌}
+use Prim.Native.Nat.{◌+◌, ◌≤◌}
 use native.Mathlib.Omega.{arith}
-use Rattle.sha256.specs.Sha256.{rounds}
-use Rattle.sha256.specs.Private.{window}
 use Rattle.sha256.proofs.RoundLaws.{last_eight}
 use Rattle.sha256.proofs.last_rounds.Goals as goal
 

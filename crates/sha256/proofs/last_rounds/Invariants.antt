@@ -1,10 +1,8 @@
-use mathlib.Core.Path.{◌≡◌, refl, ap, ◌∙◌}
+use mathlib.Core.Path.{◌≡◌}
 use mathlib.Core.List.{List}
 use Prim.Native.Nat.{ℕ, ◌+◌, ◌-◌, ◌%◌, ◌≤◌}
-use native.Mathlib.Omega.{arith}
 use Rattle.sha256.specs.Sha256.{rounds}
 use Rattle.sha256.specs.Private.{window}
-use Rattle.sha256.proofs.RoundLaws.{last_eight}
 use Rattle.sha256.proofs.last_rounds.Given as goal
 
 abbrev pub invariant-loop-n : goal.invariant-loop-n

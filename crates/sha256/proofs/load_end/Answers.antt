@@ -1,8 +1,6 @@
 -- `sha256::load_end` meets its contract. The loop's invariant: the first j words are those of the block, and the rest are zeros.
-use Prim.Native.Nat.{◌+◌, ◌-◌, ◌*◌, ◌≤◌}
 use native.Mathlib.Omega.{arith}
-use Rattle.sha256.specs.Sha256.{word, pad}
-use Rattle.sha256.proofs.Padding.{Begun, begun_none, begun_more, block-ends}
+use Rattle.sha256.proofs.Padding.{begun_none, begun_more, block-ends}
 use Rattle.sha256.proofs.load_end.Goals as goal
 
 pub loop-j-init : goal.loop-j-init

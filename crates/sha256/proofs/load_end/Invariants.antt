@@ -1,7 +1,6 @@
 use Prim.Native.Nat.{◌+◌, ◌-◌, ◌*◌, ◌≤◌}
-use native.Mathlib.Omega.{arith}
 use Rattle.sha256.specs.Sha256.{word, pad}
-use Rattle.sha256.proofs.Padding.{Begun, begun_none, begun_more, block-ends}
+use Rattle.sha256.proofs.Padding.{Begun}
 use Rattle.sha256.proofs.load_end.Given as goal
 
 abbrev pub invariant-loop-j : goal.invariant-loop-j

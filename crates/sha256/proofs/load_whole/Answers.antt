@@ -1,8 +1,7 @@
 -- `sha256::load_whole` meets its contract. The loop's invariant: the first j words are those of the block.
-use Prim.Native.Nat.{◌+◌, ◌-◌, ◌*◌}
 use native.Mathlib.Omega.{arith}
-use Rattle.sha256.specs.Sha256.{block, word, pad}
-use Rattle.sha256.proofs.Build.{Filled, filled_none, filled_more, filled_all}
+use Rattle.sha256.specs.Sha256.{block}
+use Rattle.sha256.proofs.Build.{filled_none, filled_more, filled_all}
 use Rattle.sha256.proofs.load_whole.Goals as goal
 
 pub loop-j-init : goal.loop-j-init

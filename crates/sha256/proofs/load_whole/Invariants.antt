@@ -1,7 +1,6 @@
 use Prim.Native.Nat.{◌+◌, ◌-◌, ◌*◌}
-use native.Mathlib.Omega.{arith}
-use Rattle.sha256.specs.Sha256.{block, word, pad}
-use Rattle.sha256.proofs.Build.{Filled, filled_none, filled_more, filled_all}
+use Rattle.sha256.specs.Sha256.{word, pad}
+use Rattle.sha256.proofs.Build.{Filled}
 use Rattle.sha256.proofs.load_whole.Given as goal
 
 abbrev pub invariant-loop-j : goal.invariant-loop-j

@@ -1,6 +1,5 @@
 -- `sha256::message_word` meets its contract: the padded message begins with the message.
 use native.Mathlib.Omega.{arith}
-use borrow.Author.Rules.{rules}
 use Rattle.sha256.proofs.Padding.{word_message}
 use Rattle.sha256.proofs.message_word.Goals as goal
 

@@ -2,7 +2,6 @@
 use mathlib.Core.Path.{sym}
 use native.Mathlib.Omega.{arith}
 use Rattle.sha256.proofs.Padding.{pad_message, pad-one_at, pad_zero}
-use borrow.Author.Rules.{rules}
 use Rattle.sha256.proofs.padded_byte.Goals as goal
 
 pub returns-then-i-m : goal.returns-then-i-m

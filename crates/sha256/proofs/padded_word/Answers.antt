@@ -1,7 +1,6 @@
 -- `sha256::padded_word` meets its contract: each way out is a law of the padded message.
 use native.Mathlib.Omega.{arith}
 use Rattle.sha256.proofs.Padding.{word_bytes, word_message, word_zero, word-length}
-use borrow.Author.Rules.{rules}
 use Rattle.sha256.proofs.padded_word.Goals as goal
 
 pub returns-then-at-n : goal.returns-then-at-n

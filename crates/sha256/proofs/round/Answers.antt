@@ -1,6 +1,5 @@
 -- `sha256::round` meets its contract: each part is what the callee ensures.
 use Rattle.sha256.proofs.RoundLaws.{round_is}
-use borrow.Author.Rules.{rules}
 use Rattle.sha256.proofs.round.Goals as goal
 
 pub returns : goal.returns

@@ -1,13 +1,12 @@
 -- `sha256::rounds` meets its contract. The loop's invariant: n is a multiple of 8, the words are the sixteen of the schedule from word n on, and the
 -- state is that after n rounds.
 use mathlib.Core.Path.{◌≡◌, refl}
-use Prim.Native.Nat.{◌+◌, ◌-◌, ◌%◌, ◌≤◌}
+use Prim.Native.Nat.{◌+◌, ◌≤◌}
 use native.Mathlib.Omega.{arith}
 use borrow.Author.Rules.{rules}
 use lib.ListN.{length}
 use Rattle.sha256.specs.Sha256.{rounds, schedule}
-use Rattle.sha256.specs.Private.{window}
-use Rattle.sha256.proofs.RoundLaws.{window_first, schedule_extends, rounds-whole}
+use Rattle.sha256.proofs.RoundLaws.{window_first, schedule_extends}
 use Rattle.sha256.proofs.rounds.Goals as goal
 
 pub loop-n-init : goal.loop-n-init

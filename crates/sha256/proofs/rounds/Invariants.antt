@@ -1,11 +1,7 @@
-use mathlib.Core.Path.{◌≡◌, refl}
-use Prim.Native.Nat.{◌+◌, ◌-◌, ◌%◌, ◌≤◌}
-use native.Mathlib.Omega.{arith}
-use borrow.Author.Rules.{rules}
-use lib.ListN.{length}
+use mathlib.Core.Path.{◌≡◌}
+use Prim.Native.Nat.{◌-◌, ◌%◌, ◌≤◌}
 use Rattle.sha256.specs.Sha256.{rounds, schedule}
 use Rattle.sha256.specs.Private.{window}
-use Rattle.sha256.proofs.RoundLaws.{window_first, schedule_extends, rounds-whole}
 use Rattle.sha256.proofs.rounds.Given as goal
 
 abbrev pub invariant-loop-n : goal.invariant-loop-n

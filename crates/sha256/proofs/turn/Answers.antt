@@ -1,6 +1,4 @@
 -- `sha256::turn` meets its contract: eight rounds, each from the one before, and eight words, each from those before it.
-use native.Mathlib.Omega.{arith}
-use borrow.Author.Rules.{rules}
 use Rattle.sha256.proofs.RoundLaws.{turned}
 use Rattle.sha256.proofs.turn.Goals as goal
 

@@ -23,9 +23,9 @@ returns-then-space-size c =
     let whole : length space ≡ tree_size d = omega (arith, size_even d) in
     let rows = c.hash_rows.ensures in
     let fits = size_yes d (length space) (omega arith) whole in record {
-  value = rows_root space d size whole (omega (arith, size_even d)) rows c.digest_at.ensures ∙ sym (root_yes d space fits);
-  space_after = rows ∙ sym (tree_yes d space fits);
-}
+      value = rows_root space d size whole (omega (arith, size_even d)) rows c.digest_at.ensures ∙ sym (root_yes d space fits);
+      space_after = rows ∙ sym (tree_yes d space fits);
+    }
 
 pub returns-else-space-size : goal.returns-else-space-size
 returns-else-space-size c =
@@ -34,9 +34,9 @@ returns-else-space-size c =
     let space = s.args.space.now in
     let other = size_other d (length space) (λ e. c.if-space-size.false (omega (arith, e, size_even d))) in
     record {
-  value = sym (root_no d space other);
-  space_after = sym (tree_no d space other);
-}
+      value = sym (root_no d space other);
+      space_after = sym (tree_no d space other);
+    }
 
 pub returns-else-height-le30 : goal.returns-else-height-le30
 returns-else-height-le30 c =
@@ -45,6 +45,6 @@ returns-else-height-le30 c =
     let space = s.args.space.now in
     let other = size-high d (length space) c.if-height-le30.false in
     record {
-  value = sym (root_no d space other);
-  space_after = sym (tree_no d space other);
-}
+      value = sym (root_no d space other);
+      space_after = sym (tree_no d space other);
+    }

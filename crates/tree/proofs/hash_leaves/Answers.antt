@@ -1,10 +1,8 @@
 -- `tree::hash_leaves` meets its contract: the leaves of a layer that fits are stored, and else nothing.
 use Prim.Native.Nat.{◌*◌}
 use mathlib.Core.Path.{sym, ap, ◌∙◌}
-use native.Mathlib.Nat.{mul-le-mul_right}
 use native.Mathlib.Omega.{arith}
 use Rattle.tree.proofs.Rows.{layer-high, layer-many, layer-values, leaves_none, leaves_fit, leaves_stay}
-use borrow.Author.Rules.{rules}
 use Rattle.tree.proofs.hash_leaves.Goals as goal
 
 pub returns-then-count-space : goal.returns-then-count-space

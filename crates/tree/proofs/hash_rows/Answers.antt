@@ -1,13 +1,7 @@
 -- `tree::hash_rows` meets its contract: what stands and what is left to lay are the tree.
-use Prim.Native.Nat.{◌+◌, ◌^◌, ◌≤◌, ◌<◌}
-use mathlib.Core.List.{◌++◌}
-use mathlib.Core.Path.{◌≡◌}
+use Prim.Native.Nat.{◌<◌}
 use native.Mathlib.Omega.{arith}
 use borrow.Author.Rules.{rules}
-use lib.ListN.{length, take, drop}
-use Rattle.sha256.specs.Sha256.{sha256}
-use Rattle.merkle.specs.Merkle.{digests}
-use Rattle.tree.specs.Tree.{tree_size, rows}
 use Rattle.tree.proofs.Rows.{row_fits, rest_fits, rows_turn, rows_end}
 use Rattle.tree.proofs.hash_rows.Goals as goal
 

@@ -1,13 +1,10 @@
-use Prim.Native.Nat.{◌+◌, ◌^◌, ◌≤◌, ◌<◌}
+use Prim.Native.Nat.{◌+◌, ◌^◌, ◌≤◌}
 use mathlib.Core.List.{◌++◌}
 use mathlib.Core.Path.{◌≡◌}
-use native.Mathlib.Omega.{arith}
-use borrow.Author.Rules.{rules}
 use lib.ListN.{length, take, drop}
 use Rattle.sha256.specs.Sha256.{sha256}
 use Rattle.merkle.specs.Merkle.{digests}
 use Rattle.tree.specs.Tree.{tree_size, rows}
-use Rattle.tree.proofs.Rows.{row_fits, rest_fits, rows_turn, rows_end}
 use Rattle.tree.proofs.hash_rows.Given as goal
 
 abbrev pub invariant-loop-above : goal.invariant-loop-above

@@ -1,5 +1,4 @@
 -- `tree::leaves` meets its contract.
-use borrow.Author.Rules.{rules}
 use Rattle.binary.proofs.BinaryLaws.{power_made}
 use Rattle.tree.proofs.leaves.Goals as goal
 

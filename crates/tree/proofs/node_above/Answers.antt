@@ -1,7 +1,6 @@
 -- `tree::node_above` meets its contract.
 use Prim.Native.Nat.{◌+◌, ◌-◌}
 use native.Mathlib.Omega.{arith}
-use borrow.Author.Rules.{rules}
 use Rattle.tree.proofs.TreeLaws.{node_parts}
 use Rattle.tree.proofs.node_above.Goals as goal
 

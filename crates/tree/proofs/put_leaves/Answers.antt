@@ -1,13 +1,10 @@
 -- `tree::put_leaves` meets its contract: after m turns the digests of the first m leaves are stored.
-use Prim.Native.Nat.{◌≤◌, ◌-◌}
-use mathlib.Core.Path.{◌≡◌, refl, ◌∙◌}
+use mathlib.Core.Path.{refl, ◌∙◌}
 use native.Mathlib.Omega.{arith}
 use borrow.Author.Rules.{rules}
-use lib.ListN.{length}
-use lib.Seq.{sets}
 use Rattle.message.specs.Bytes.{joined}
 use Rattle.message.specs.Lists.{tabulate}
-use Rattle.tree.proofs.TreeLaws.{leaf_at, leaves-more, leaves-done}
+use Rattle.tree.proofs.TreeLaws.{leaves-more, leaves-done}
 use Rattle.tree.proofs.put_leaves.Goals as goal
 
 pub loop-m-init : goal.loop-m-init

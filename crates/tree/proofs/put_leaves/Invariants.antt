@@ -1,12 +1,10 @@
 use Prim.Native.Nat.{◌≤◌, ◌-◌}
-use mathlib.Core.Path.{◌≡◌, refl, ◌∙◌}
-use native.Mathlib.Omega.{arith}
-use borrow.Author.Rules.{rules}
+use mathlib.Core.Path.{◌≡◌}
 use lib.ListN.{length}
 use lib.Seq.{sets}
 use Rattle.message.specs.Bytes.{joined}
 use Rattle.message.specs.Lists.{tabulate}
-use Rattle.tree.proofs.TreeLaws.{leaf_at, leaves-more, leaves-done}
+use Rattle.tree.proofs.TreeLaws.{leaf_at}
 use Rattle.tree.proofs.put_leaves.Given as goal
 
 abbrev pub invariant-loop-m : goal.invariant-loop-m

@@ -1,13 +1,9 @@
 -- `tree::row` meets its contract: after i turns the first i nodes are stored.
-use Prim.Native.Nat.{◌≤◌, ◌-◌}
-use mathlib.Core.Path.{◌≡◌, refl, ◌∙◌}
+use mathlib.Core.Path.{refl, ◌∙◌}
 use borrow.Author.Rules.{rules}
-use lib.ListN.{length, drop}
-use lib.Seq.{sets}
 use Rattle.message.specs.Bytes.{joined}
-use Rattle.sha256.specs.Sha256.{sha256}
 use Rattle.message.specs.Lists.{tabulate}
-use Rattle.tree.proofs.TreeLaws.{pair_at, row_more, row_done}
+use Rattle.tree.proofs.TreeLaws.{row_more, row_done}
 use Rattle.tree.proofs.row.Goals as goal
 
 pub loop-i-init : goal.loop-i-init

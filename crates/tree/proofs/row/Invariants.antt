@@ -1,12 +1,11 @@
 use Prim.Native.Nat.{◌≤◌, ◌-◌}
-use mathlib.Core.Path.{◌≡◌, refl, ◌∙◌}
-use borrow.Author.Rules.{rules}
+use mathlib.Core.Path.{◌≡◌}
 use lib.ListN.{length, drop}
 use lib.Seq.{sets}
 use Rattle.message.specs.Bytes.{joined}
 use Rattle.sha256.specs.Sha256.{sha256}
 use Rattle.message.specs.Lists.{tabulate}
-use Rattle.tree.proofs.TreeLaws.{pair_at, row_more, row_done}
+use Rattle.tree.proofs.TreeLaws.{pair_at}
 use Rattle.tree.proofs.row.Given as goal
 
 abbrev pub invariant-loop-i : goal.invariant-loop-i

@@ -1,5 +1,4 @@
 -- `tree::sibling` meets its contract.
-use borrow.Author.Rules.{rules}
 use Rattle.tree.proofs.TreeLaws.{sibling_even, sibling_odd}
 use Rattle.tree.proofs.sibling.Goals as goal
 

@@ -1,12 +1,7 @@
 -- `tree::values_of` meets its contract: after r turns the first r values of the leaf are there.
-use Prim.Native.Nat.{◌+◌, ◌*◌, ◌≤◌, ◌-◌}
-use mathlib.Core.Path.{◌≡◌, refl, ap, ◌∙◌}
-use native.Mathlib.Omega.{arith}
+use mathlib.Core.Path.{refl}
 use borrow.Author.Rules.{rules}
-use lib.ListN.{length, take}
-use Rattle.message.specs.Lists.{tabulate}
-use Rattle.tree.specs.Tree.{values_of}
-use Rattle.tree.proofs.TreeLaws.{values_none, values-more, values-done, value-next, value_inside}
+use Rattle.tree.proofs.TreeLaws.{values_none, values-more, value-next}
 use Rattle.tree.proofs.values_of.Goals as goal
 
 pub loop-r-init : goal.loop-r-init

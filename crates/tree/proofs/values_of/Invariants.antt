@@ -1,11 +1,7 @@
 use Prim.Native.Nat.{◌+◌, ◌*◌, ◌≤◌, ◌-◌}
-use mathlib.Core.Path.{◌≡◌, refl, ap, ◌∙◌}
-use native.Mathlib.Omega.{arith}
-use borrow.Author.Rules.{rules}
+use mathlib.Core.Path.{◌≡◌}
 use lib.ListN.{length, take}
-use Rattle.message.specs.Lists.{tabulate}
 use Rattle.tree.specs.Tree.{values_of}
-use Rattle.tree.proofs.TreeLaws.{values_none, values-more, values-done, value-next, value_inside}
 use Rattle.tree.proofs.values_of.Given as goal
 
 abbrev pub invariant-loop-r : goal.invariant-loop-r

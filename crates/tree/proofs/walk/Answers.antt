@@ -1,11 +1,7 @@
 -- `tree::walk` meets its contract: what is stored and what is left to store are the siblings.
-use Prim.Native.Nat.{◌+◌, ◌*◌, ◌-◌, ◌^◌, ◌≤◌, ◌<◌}
-use mathlib.Core.Path.{◌≡◌}
+use Prim.Native.Nat.{◌+◌, ◌*◌, ◌-◌, ◌<◌}
 use native.Mathlib.Omega.{arith}
 use borrow.Author.Rules.{rules}
-use lib.ListN.{length, drop}
-use lib.Seq.{sets}
-use Rattle.tree.specs.Tree.{tree_size, siblings_in}
 use Rattle.tree.proofs.Rows.{sibling-fits, index_fits, next_fits, walk_turn, walk_end}
 use Rattle.tree.proofs.walk.Goals as goal
 

@@ -1,11 +1,8 @@
-use Prim.Native.Nat.{◌+◌, ◌*◌, ◌-◌, ◌^◌, ◌≤◌, ◌<◌}
+use Prim.Native.Nat.{◌+◌, ◌*◌, ◌^◌, ◌≤◌, ◌<◌}
 use mathlib.Core.Path.{◌≡◌}
-use native.Mathlib.Omega.{arith}
-use borrow.Author.Rules.{rules}
 use lib.ListN.{length, drop}
 use lib.Seq.{sets}
 use Rattle.tree.specs.Tree.{tree_size, siblings_in}
-use Rattle.tree.proofs.Rows.{sibling-fits, index_fits, next_fits, walk_turn, walk_end}
 use Rattle.tree.proofs.walk.Given as goal
 
 abbrev pub invariant-loop-left : goal.invariant-loop-left

@@ -1,5 +1,4 @@
 -- `Felt::difference` meets its contract: the value of `sub`, once the arguments are judged.
-use borrow.Author.Rules.{rules}
 use Rattle.felt.proofs.CheckedLaws.{judged_both_value}
 use Rattle.felt.specs.Checked.{difference_answer}
 use Rattle.felt.proofs.Felt.difference.Goals as goal

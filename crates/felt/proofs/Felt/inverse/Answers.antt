@@ -1,6 +1,5 @@
 -- `Felt::inverse` meets its contract: 15 for 0, which is below p; else the value of `inv`, once the argument is judged.
 use mathlib.Core.Path.{sym, ◌∙◌}
-use borrow.Author.Rules.{rules}
 use Rattle.felt.proofs.CheckedLaws.{inverse_zero, inverse_other}
 use Rattle.felt.proofs.Felt.inverse.Goals as goal
 

@@ -1,5 +1,4 @@
 -- `Felt::negation` meets its contract: the value of `neg`, once the arguments are judged.
-use borrow.Author.Rules.{rules}
 use Rattle.felt.proofs.CheckedLaws.{judged_value}
 use Rattle.felt.specs.Checked.{negation_answer}
 use Rattle.felt.proofs.Felt.negation.Goals as goal

@@ -1,5 +1,4 @@
 -- `Felt::power` meets its contract: the value of `pow`, once the arguments are judged.
-use borrow.Author.Rules.{rules}
 use Rattle.felt.proofs.CheckedLaws.{judged_value}
 use Rattle.felt.specs.Checked.{power_answer}
 use Rattle.felt.proofs.Felt.power.Goals as goal

@@ -1,5 +1,4 @@
 -- `Felt::product` meets its contract: the value of `mul`, once the arguments are judged.
-use borrow.Author.Rules.{rules}
 use Rattle.felt.proofs.CheckedLaws.{judged_both_value}
 use Rattle.felt.specs.Checked.{product_answer}
 use Rattle.felt.proofs.Felt.product.Goals as goal

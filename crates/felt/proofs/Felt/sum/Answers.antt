@@ -1,5 +1,4 @@
 -- `Felt::sum` meets its contract: the value of `add`, once the arguments are judged.
-use borrow.Author.Rules.{rules}
 use Rattle.felt.proofs.CheckedLaws.{judged_both_value}
 use Rattle.felt.specs.Checked.{sum_answer}
 use Rattle.felt.proofs.Felt.sum.Goals as goal
