@@ -2,7 +2,8 @@
 // leaves the job without a line.
 #![tactic(auto)]
 
-ghost use Rattle.std.specs.Prelude.{◌≡◌, IfOk, OnOk, IfSome};
+ghost use Rattle.std.specs.Prelude.{◌≡◌, ◌↔◌, ◌⊎◌, IfOk, OnOk, IfSome, IsTrue};
+ghost use Rattle.std.specs.IoError.{error_kind};
 ghost use Rattle.std.specs.Io.{ReadsAtMost};
 ghost use Rattle.std.specs.Io.KnownBytes.{ReadConsumes, Appends};
 ghost use Rattle.job.specs.Job.{job_answer};
@@ -23,7 +24,9 @@ const READS: u32 = 1000000;
 const TRIES: u32 = 10000000;
 
 // Whether a read that failed with this error may succeed later: no byte is lost by trying it again.
-fn is_passing(error: &io::Error) -> bool {
+fn is_passing(error: &io::Error) -> bool
+    ensures { IsTrue result ↔ ((error_kind error.now ≡ ErrorKind.Interrupted) ⊎ (error_kind error.now ≡ ErrorKind.WouldBlock)) }
+{
     let kind = error.kind();
     kind == ErrorKind::Interrupted || kind == ErrorKind::WouldBlock
 }
