@@ -15,7 +15,7 @@ What it cannot read it does not pass over: every `fn`, `mod`, `use` and `pub` of
 has to have the form that it knows.
 It checks that the code of the field and of what evaluates with it, with every crate called from there, divides by powers of two alone.
 Then it checks the edits and the papers: each must-fail edit fits its file at exactly one place and, if it is a wrong program, names its public
-call in a line `# of CALL`; each public call has two of them; docs/WRONG-PROGRAMS.md, which counts and lists them all, is what the edits say;
+call, or the function of a program, in a line `# of CALL`; each public call has two of them; docs/WRONG-PROGRAMS.md, which counts and lists them all, is what the edits say;
 and every file, link and theorem that the papers name is there. No axiom is declared and no proof cites `lem` or `ac`.
 
 Usage: tests/audit.py [--list | --theorems | --page]
@@ -29,7 +29,7 @@ from functools import cache
 from pathlib import Path
 
 ROOT = Path(__file__).resolve().parent.parent
-LIBRARY = {"mathlib", "Prim", "native", "lib", "borrow", "Rattle.std", "Rattle.core"}  # of Rattle's own, by crate
+LIBRARY = {"mathlib", "Prim", "native", "lib", "borrow", "Rattle.std", "Rattle.core", "Rattle.hex"}  # of Rattle's own, by crate
 PRELUDE = set("IsProp IsSet ⊥ absurd ¬◌ Dec yes no Discrete Unit tt Id J Path".split())  # the library's, with no import
 LANGUAGE = set("λ . , ( ) { } × → :".split())  # the contract language's own signs
 WORDS = {"result", "tt"}  # its own words
@@ -515,7 +515,7 @@ class Edit:
 
 
 def check_edits(names):
-    """crate → edit name → Edit. `names` are the public calls."""
+    """crate → edit name → Edit. `names` are the public calls, and the functions of programs."""
     edits = {}
     for path in sorted(ROOT.glob("crates/*/must-fail/*")):
         crate = path.parts[-3]
@@ -576,7 +576,7 @@ def page(calls, edits):
         "This page is written by `tests/audit.py --page`, and the audit fails where it is not what the edits say.",
         "",
         "## Wrong programs",
-        "Every public call has two at least. An edit of another crate is named with it.",
+        "Every public call has two at least. An edit of another crate is named with it. Behind the calls come the functions of programs.",
         "",
         "| call | wrong programs |",
         "|---|---|",
@@ -595,7 +595,7 @@ def page(calls, edits):
     return "\n".join(lines) + "\n"
 
 
-def check_wrong_programs(calls, edits):
+def check_wrong_programs(calls, of_programs, edits):
     """Two edits of the code at least for each public call, which leave contracts and definitions as they are. An edit may carry a proof
     along to the code that it changes."""
     for call in calls:
@@ -605,7 +605,7 @@ def check_wrong_programs(calls, edits):
         if programs < 2:
             fault(call.name, f"has {programs} wrong programs")
     paper = ROOT / "docs" / "WRONG-PROGRAMS.md"
-    if not paper.exists() or paper.read_text() != page(calls, edits):
+    if not paper.exists() or paper.read_text() != page(calls + of_programs, edits):
         fault(paper.relative_to(ROOT), "is not what the edits say: tests/audit.py --page writes it")
 
 
@@ -721,10 +721,11 @@ def audit(listed=False, write=False):
         check_meaning(call)
     check_names()
     check_divisions()
-    edits = check_edits({c.name for c in calls})
+    of_programs = [f for f in every if f.ensures and (ROOT / "crates" / f.name.split("::")[0] / "src" / "main.rt").exists()]
+    edits = check_edits({c.name for c in calls + of_programs})
     if write:
-        (ROOT / "docs" / "WRONG-PROGRAMS.md").write_text(page(calls, edits))
-    check_wrong_programs(calls, edits)
+        (ROOT / "docs" / "WRONG-PROGRAMS.md").write_text(page(calls + of_programs, edits))
+    check_wrong_programs(calls, of_programs, edits)
     stated = list(theorems())
     if write:
         (ROOT / "docs" / "THEOREMS.md").write_text(theorem_page(stated))
