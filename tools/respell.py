@@ -49,7 +49,7 @@ def table():
         # the longest runs of parts that are one name, as add_mod in add-mod, count as a word
         out = parts[0]
         for left, right in zip(parts, parts[1:]):
-            joint = "-" if (left in words and right in words) or left[:1].isupper() else "_"
+            joint = "-" if ((left in words and right in words) or left[:1].isupper()) and not any(names[n][1]) else "_"
             out += joint + right
         new[n] = out
     # two names that would fall together

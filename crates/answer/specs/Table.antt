@@ -49,22 +49,22 @@ not_below_modulus = 22
 abbrev pub path_misses_root : ℕ
 path_misses_root = 23
 
-abbrev pub not_the_folded-value : ℕ
-not_the_folded-value = 24
+abbrev pub not_the_folded_value : ℕ
+not_the_folded_value = 24
 
 abbrev pub misses_final_polynomial : ℕ
 misses_final_polynomial = 25
 
 -- the end call only
-abbrev pub too_few-bytes : ℕ
-too_few-bytes = 26
+abbrev pub too_few_bytes : ℕ
+too_few_bytes = 26
 
 abbrev pub byte_after_the_end : ℕ
 byte_after_the_end = 27
 
 -- the writer only, as are the two below
-abbrev pub wrong_coefficient-count : ℕ
-wrong_coefficient-count = 30
+abbrev pub wrong_coefficient_count : ℕ
+wrong_coefficient_count = 30
 
 abbrev pub scratch_too_short : ℕ
 scratch_too_short = 31
@@ -79,7 +79,7 @@ is_fault number =
     || eqb number parameters_differ
     || eqb number not_below_modulus
     || eqb number path_misses_root
-    || eqb number not_the_folded-value
+    || eqb number not_the_folded_value
     || eqb number misses_final_polynomial
     || eqb number byte_after_the_end
 
@@ -87,5 +87,5 @@ is_fault number =
 abbrev pub table : List ℕ
 table =
     open_so_far ∷ accepted ∷ parameters_not_valid ∷ closed ∷ job_too_short ∷ message_too_long ∷ inverse_of_zero ∷ no_such_opening
-    ∷ count_differs ∷ parameters_differ ∷ not_below_modulus ∷ path_misses_root ∷ not_the_folded-value ∷ misses_final_polynomial
-    ∷ too_few-bytes ∷ byte_after_the_end ∷ wrong_coefficient-count ∷ scratch_too_short ∷ output_too_short ∷ []
+    ∷ count_differs ∷ parameters_differ ∷ not_below_modulus ∷ path_misses_root ∷ not_the_folded_value ∷ misses_final_polynomial
+    ∷ too_few_bytes ∷ byte_after_the_end ∷ wrong_coefficient_count ∷ scratch_too_short ∷ output_too_short ∷ []

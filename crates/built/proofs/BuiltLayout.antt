@@ -48,9 +48,9 @@ module _
     opening_layout j m h =
         let g : List ℕ = (layer_at hash p context f j).poly in
         record {
-          value-count = leaf-count p g j _;
-          value-below = leaf-below p g j _;
-          sibling-count = path-length hash (height p j) (leaves hash p g j) m;
+          value_count = leaf-count p g j _;
+          value_below = leaf-below p g j _;
+          sibling_count = path-length hash (height p j) (leaves hash p g j) m;
           sibling = path_all hash IsDigest hash_digest (height p j) (leaves hash p g j) m (leaves-length hash p g j) h (leaf_digest_lem g j);
         }
 
@@ -58,11 +58,11 @@ module _
     unfolding build built_root final_count
     built_layout v short =
         record {
-          root-count = tabulate-length _ _;
+          root_count = tabulate-length _ _;
           root_digest = λ j h. rw (tabulate_at p.k (built_root hash p context f) j [] h) (commit_digest _ j);
-          final-count = layer-length hash p context f p.k (omega arith) short;
-          final-below = λ i h. below_at (layer_below hash p context f p.k v.k_low) i;
-          query-count = tabulate-length _ _;
-          layer-count = λ i h. ap length (tabulate_at p.q _ i [] h) ∙ tabulate-length _ _;
+          final_count_lem = layer-length hash p context f p.k (omega arith) short;
+          final_below = λ i h. below_at (layer_below hash p context f p.k v.k_low) i;
+          query_count = tabulate-length _ _;
+          layer_count = λ i h. ap length (tabulate_at p.q _ i [] h) ∙ tabulate-length _ _;
           opening_form = λ i j h l. rw (built_opening hash p context f i j h l) (opening_layout j _ (leaf_lt p j _));
         }

@@ -124,8 +124,8 @@ module _ {S : Type 0} (t : Table) (r : Reader S) (closes : Shut r r.opened) (cs 
   pub refused_opening : given r cs ≡ given (plain t true) cs
   refused_opening = shut_given t r closes cs [] true
 
-  pub refused-leaves : state_left r cs ≡ r.opened
-  refused-leaves = shut-leaves t r closes cs
+  pub refused_leaves : state_left r cs ≡ r.opened
+  refused_leaves = shut-leaves t r closes cs
 
 module _ {S : Type 0} (t : Table) (r : Reader S) (f : Follows t r) where
   -- The answers to any list, and the state that it leaves, from an open state on.
@@ -170,17 +170,17 @@ module _ {S : Type 0} (t : Table) (r : Reader S) (f : Follows t r) where
   -- The states of a refused and of a closed reader, after every list of calls.
   pub state-rule : (cs : List Call) → StateRule r cs
   state-rule cs = record {
-    refused-answer = λ xs ys e w.
+    refused_answer = λ xs ys e w.
         ap (λ s. r.piece_answer s ys) (after_piece_lem cs xs e)
         ∙ f.piece-answer (joined cs ++ xs) ys
         ∙ piece_repeats t (joined cs ++ xs) ys _ (refusal xs e w)
         ∙ sym (to_piece_lem cs xs e);
-    refused-stays = λ xs ys e w.
+    refused_stays = λ xs ys e w.
         ap (λ s. r.piece_next s ys) (after_piece_lem cs xs e)
         ∙ f.piece-next (joined cs ++ xs) ys
         ∙ f.stays (joined cs ++ xs) ys _ (refusal xs e w)
         ∙ sym (after_piece_lem cs xs e);
-    closed-stays = λ c e.
+    closed_stays = λ c e.
         let now : state_left r cs ≡ f.shut = rw e at (state-left cs) in
         ap (λ s. next r s c) now ∙ shut-stays c ∙ sym now;
   }

@@ -12,7 +12,7 @@ use lib.ListN.{length, take, drop, length-drop, drop_of_length-le}
 use lib.Seq.{take_all}
 use borrow.Author.Tests.{leb-true, leb-false, eq-eqb}
 use Rattle.answer.specs.declared.Answer.{Answer}
-use Rattle.answer.specs.Table.{answered, open_so_far, accepted, too_few-bytes, byte_after_the_end}
+use Rattle.answer.specs.Table.{answered, open_so_far, accepted, too_few_bytes, byte_after_the_end}
 use Rattle.fri.specs.Process.{Process, Result, Left, left, outcome, run, done, fail, need, short, refused, ended}
 use Rattle.fri.specs.Judge.{piece_answer, end_answer}
 use Rattle.fri.proofs.Process.{left_enough, left-few, left-append}
@@ -131,11 +131,11 @@ module _ (p : Process) where
   pub plain_end : Begins p → (bs : List ℕ) → after_end (table_of p) bs ≡ end_answer (run p bs 0) (length bs)
   unfolding after_end run outcome end_answer
   plain_end begins bs =
-      ap (λ o. get_or o (answered (cond (is_whole (run p bs 0)) accepted too_few-bytes) (length bs))) (decide_judged begins bs)
+      ap (λ o. get_or o (answered (cond (is_whole (run p bs 0)) accepted too_few_bytes) (length bs))) (decide_judged begins bs)
       ∙ same (left p bs 0).process (left p bs 0).held (left p bs 0).place (rests bs)
     where
       same : (q : Process) (held : List ℕ) (place : ℕ) → Rests (length bs) q held place
-          → get_or (refusal_of (outcome q held place)) (answered (cond (is_whole (outcome q held place)) accepted too_few-bytes) (length bs))
+          → get_or (refusal_of (outcome q held place)) (answered (cond (is_whole (outcome q held place)) accepted too_few_bytes) (length bs))
           ≡ end_answer (outcome q held place) (length bs)
       same done [] place (at_end e) = ap (λ d. answered accepted d) (omega arith)
       same done (x ∷ xs) place (at_end e) = refl

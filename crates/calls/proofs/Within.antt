@@ -77,8 +77,8 @@ module _ {p : Process} {w : ℕ} (width : Width p w) (begins : Begins p) where
     open_place = λ i h. rw (answers-plain (table_of p) r f cs) (λ n. (plain_open cs [] i h n).0);
     open_within = λ i h. rw (answers-plain (table_of p) r f cs) (λ n l e. omega (arith, plain_open cs [] i h n, some_inj.0 e));
     accepted_call = λ i h. rw (answers-plain (table_of p) r f cs) (λ n. (plain-accepted cs [] i h n).0);
-    accepted-bytes = λ i h. rw (answers-plain (table_of p) r f cs) (λ n. ap some (sym (plain-accepted cs [] i h n).1));
-    accepted-place = λ i h. rw (answers-plain (table_of p) r f cs) (λ n. omega (arith, plain-accepted cs [] i h n));
+    accepted_bytes = λ i h. rw (answers-plain (table_of p) r f cs) (λ n. ap some (sym (plain-accepted cs [] i h n).1));
+    accepted_place = λ i h. rw (answers-plain (table_of p) r f cs) (λ n. omega (arith, plain-accepted cs [] i h n));
   }
 
 -- The judgement of a proof file refuses nothing before the first byte, and the verdict on a whole file is the plain reader's answer to its end call.

@@ -54,12 +54,12 @@ pub record PrefixRule {S : Type 0} (r : Reader S) : Type 0 where
 -- What document 01 says of the states of a reader after the calls cs.
 pub record StateRule {S : Type 0} (r : Reader S) (cs : List Call) : Type 0 where
   -- Where the piece xs is refused, any next piece ys gets the same answer, and leaves the state as it is.
-  pub refused-answer : (xs ys : List ℕ) → has_end cs ≡ false → Refuses (to_piece r cs xs)
+  pub refused_answer : (xs ys : List ℕ) → has_end cs ≡ false → Refuses (to_piece r cs xs)
       → r.piece_answer (r.piece_next (state_left r cs) xs) ys ≡ to_piece r cs xs
-  pub refused-stays : (xs ys : List ℕ) → has_end cs ≡ false → Refuses (to_piece r cs xs)
+  pub refused_stays : (xs ys : List ℕ) → has_end cs ≡ false → Refuses (to_piece r cs xs)
       → r.piece_next (r.piece_next (state_left r cs) xs) ys ≡ r.piece_next (state_left r cs) xs
   -- After an end call, any call leaves the state as it is.
-  pub closed-stays : (c : Call) → has_end cs ≡ true → next r (state_left r cs) c ≡ state_left r cs
+  pub closed_stays : (c : Call) → has_end cs ≡ true → next r (state_left r cs) c ≡ state_left r cs
 
 -- What the table says of the answers 0 and 1, where `size` is the length of a file that begins with the bytes so far, or none while they do not tell
 -- it: of answer number i to the calls cs, counted from 0.
@@ -70,6 +70,6 @@ pub record SizeRule {S : Type 0} (size : List ℕ → Option ℕ) (r : Reader S)
       → (l : ℕ) → size (joined (take (suc i) cs)) ≡ some l → (nth r cs i).place ≤ l
   -- 1 is given to the first end call only, at the number of bytes before it, and the file has as many.
   pub accepted_call : (i : ℕ) → i < length cs → (nth r cs i).number ≡ accepted → ends_once (take (suc i) cs) ≡ true
-  pub accepted-bytes : (i : ℕ) → i < length cs → (nth r cs i).number ≡ accepted
+  pub accepted_bytes : (i : ℕ) → i < length cs → (nth r cs i).number ≡ accepted
       → size (joined (take (suc i) cs)) ≡ some (length (joined (take (suc i) cs)))
-  pub accepted-place : (i : ℕ) → i < length cs → (nth r cs i).number ≡ accepted → (nth r cs i).place ≡ length (joined (take (suc i) cs))
+  pub accepted_place : (i : ℕ) → i < length cs → (nth r cs i).number ≡ accepted → (nth r cs i).place ≡ length (joined (take (suc i) cs))

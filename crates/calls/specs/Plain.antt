@@ -3,7 +3,7 @@ use Rattle.std.specs.Prelude.{ℕ, zero, suc, Bool, true, false, cond, List, [],
 use Rattle.std.proofs.Math.Option.{Option, none, some}
 use Rattle.std.proofs.Math.Option as option
 use Rattle.answer.specs.declared.Answer.{Answer}
-use Rattle.answer.specs.Table.{answered, open_so_far, accepted, closed, too_few-bytes}
+use Rattle.answer.specs.Table.{answered, open_so_far, accepted, closed, too_few_bytes}
 use Rattle.calls.specs.Calls.{Reader}
 
 -- It holds the bytes joined so far, and whether it is closed.
@@ -41,7 +41,7 @@ module _ (t : Table) where
 
   -- The answer to the end call: the earliest refusal if there is one, else 1 at their number if they are a whole file, and 26 there if not.
   unfoldable pub after_end : List ℕ → Answer
-  after_end bs = option.get_or (decide bs) (answered (cond (t.whole bs) accepted too_few-bytes) (length bs))
+  after_end bs = option.get_or (decide bs) (answered (cond (t.whole bs) accepted too_few_bytes) (length bs))
 
 -- A piece: when closed, 11 at 0 and nothing changes; else its bytes are joined on at the end, after a refusal too.
 abbrev pub join_on : Plain → List ℕ → Plain

@@ -84,14 +84,14 @@ module _ {S H : Type 0} (f : S → H) (r : Calls S) (b : Calls H) (i : Stands f 
   states_image : (cs : List Call) → StateRule r cs → StateRule b cs
   states_image cs z =
       record {
-        refused-answer = λ xs ys e g.
+        refused_answer = λ xs ys e g.
             ap (λ h. b.piece_answer h ys) (piece-left cs xs) ∙ i.piece-answer (r.piece_next (state_left r cs) xs) ys
-            ∙ z.refused-answer xs ys e (subst Refuses (to_piece_lem cs xs) g) ∙ sym (to_piece_lem cs xs);
-        refused-stays = λ xs ys e g.
+            ∙ z.refused_answer xs ys e (subst Refuses (to_piece_lem cs xs) g) ∙ sym (to_piece_lem cs xs);
+        refused_stays = λ xs ys e g.
             ap (λ h. b.piece_next h ys) (piece-left cs xs) ∙ i.piece-next (r.piece_next (state_left r cs) xs) ys
-            ∙ ap f (z.refused-stays xs ys e (subst Refuses (to_piece_lem cs xs) g)) ∙ sym (piece-left cs xs);
-        closed-stays = λ c e.
-            ap (λ h. next b h c) (leaves_image cs) ∙ next_image (state_left r cs) c ∙ ap f (z.closed-stays c e) ∙ sym (leaves_image cs);
+            ∙ ap f (z.refused_stays xs ys e (subst Refuses (to_piece_lem cs xs) g)) ∙ sym (piece-left cs xs);
+        closed_stays = λ c e.
+            ap (λ h. next b h c) (leaves_image cs) ∙ next_image (state_left r cs) c ∙ ap f (z.closed_stays c e) ∙ sym (leaves_image cs);
       }
 
   prefix_image : PrefixRule r → PrefixRule b
@@ -113,8 +113,8 @@ module _ {S H : Type 0} (f : S → H) (r : Calls S) (b : Calls H) (i : Stands f 
         open_place = λ n h e. place_of (nth_image cs n) ∙ z.open_place n h (was cs n open_so_far e);
         open_within = λ n h e l s. subst (λ (x : Answer). x.place ≤ l) (sym (nth_image cs n)) (z.open_within n h (was cs n open_so_far e) l s);
         accepted_call = λ n h e. z.accepted_call n h (was cs n accepted e);
-        accepted-bytes = λ n h e. z.accepted-bytes n h (was cs n accepted e);
-        accepted-place = λ n h e. place_of (nth_image cs n) ∙ z.accepted-place n h (was cs n accepted e);
+        accepted_bytes = λ n h e. z.accepted_bytes n h (was cs n accepted e);
+        accepted_place = λ n h e. place_of (nth_image cs n) ∙ z.accepted_place n h (was cs n accepted e);
       }
 
   -- The states by their parts.
@@ -149,8 +149,8 @@ module _ {S H : Type 0} (f : S → H) (r : Calls S) (b : Calls H) (i : Stands f 
           prefixes = prefix_image w.prefixes;
           sizes = λ cs. size_image (known_length a.params) cs (w.sizes cs);
           closes = λ cs e. leaves_image cs ∙ ap f (w.closes cs e);
-          refused-leaves = λ cs x e g.
-              piece-left cs (x ∷ []) ∙ ap f (w.refused-leaves cs x e (subst Refuses (to_piece_lem cs (x ∷ [])) g))
+          refused_leaves = λ cs x e g.
+              piece-left cs (x ∷ []) ∙ ap f (w.refused_leaves cs x e (subst Refuses (to_piece_lem cs (x ∷ [])) g))
               ∙ ap (λ (a : Answer). f (k.refused_with a (k.tables_in (state_left r cs)))) (sym (to_piece_lem cs (x ∷ [])))
               ∙ ap (λ (t : Tables). f (k.refused_with (to_piece b cs (x ∷ [])) t)) (sym (ap tables (leaves_image cs) ∙ same_tables (state_left r cs)));
         }

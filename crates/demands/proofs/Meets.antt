@@ -28,7 +28,7 @@ use Rattle.lent_reader.specs.Held.{Held, held_of, reader_of, outcome_of, boundar
 use Rattle.lent_reader.proofs.Through.{round_trip}
 use Rattle.built.proofs.Built.{built_accepted}
 use Rattle.demands.specs.Demands.{plain_table, by_value_states, lent_states, Closed, after_end_lem, after_refusal, WhenAdmitted, WhenRefused, Demands, Readers}
-use Rattle.demands.proofs.Plainly.{shut-same, answers-same, table-rule, open_number}
+use Rattle.demands.proofs.Plainly.{shut-same, answers-same, table_rule, open_number}
 use Rattle.demands.proofs.Keeps.{step_keeps}
 use Rattle.demands.proofs.Image.{Stands, demands_image}
 
@@ -64,8 +64,8 @@ module _ (a : Terms) where
         states = λ cs. (c cs).states;
         prefixes = (c []).prefixes;
         sizes = λ cs. (c cs).sizes;
-        closes = λ cs. (c cs).closed-state;
-        refused-leaves = λ cs x e g. refused-state (state_left r cs) x ((c cs).refused_core (x ∷ []) e g);
+        closes = λ cs. (c cs).closed_state_lem;
+        refused_leaves = λ cs x e g. refused-state (state_left r cs) x ((c cs).refused_core (x ∷ []) e g);
       }
 
   refused_demands : ¬ Admitted a → WhenRefused a (opened sha256 a).answer by_value_states r
@@ -131,4 +131,4 @@ module _ (a : Terms) where
       by_value
 
   pub meets : Readers a
-  meets = record { table-rule = λ v. table-rule a v; by_value = by_value; lent = lent }
+  meets = record { table_rule = λ v. table_rule a v; by_value = by_value; lent = lent }

@@ -12,7 +12,7 @@ use borrow.Author.Tests.{eq-eqb, ne_eqb}
 use lib.Dec.{eqb}
 use lib.ListN.{length, take, get_or}
 use Rattle.answer.specs.declared.Answer.{Answer}
-use Rattle.answer.specs.Table.{answered, open_so_far, accepted, closed, too_few-bytes}
+use Rattle.answer.specs.Table.{answered, open_so_far, accepted, closed, too_few_bytes}
 use Rattle.sha256.specs.Sha256.{sha256}
 use Rattle.params.specs.declared.Params.{Params}
 use Rattle.params.specs.declared.Terms.{Terms}
@@ -21,7 +21,7 @@ use Rattle.params.specs.Admission.{Admitted}
 use Rattle.params.proofs.AdmissionLaws.{admitted-valid}
 use Rattle.fri.specs.Process.{Process, run}
 use Rattle.fri.specs.Judge.{judgement, verdict}
-use Rattle.rules.specs.Rules.{Rule, count_1, count_2, count_3, count_4, section_1, coefficient, value, folded-value, path, final_value, after_the_end, Refused, NoFault, PieceRow, VerdictRow, so_far, not_admitted, whole, too_few}
+use Rattle.rules.specs.Rules.{Rule, count_1, count_2, count_3, count_4, section_1, coefficient, value, folded_value, path, final_value, after_the_end, Refused, NoFault, PieceRow, VerdictRow, so_far, not_admitted, whole, too_few}
 use Rattle.rules.proofs.Exactly.{refused_exactly, piece_exactly, verdict_exactly}
 use Rattle.calls.specs.Calls.{Call, piece, end, has_end, answers}
 use Rattle.calls.specs.Plain.{Table, Plain, holds, or_else, decided_by, earliest, decide, after_piece, after_end, plain}
@@ -73,9 +73,9 @@ module _ (a : Terms) where
   unfolding after_piece
   open_piece bs e = ap (λ o. Option.get_or o (answered open_so_far (length bs))) e
 
-  open_end : (bs : List ℕ) → decide t bs ≡ none → after_end t bs ≡ answered (cond (is_whole (run judge bs 0)) accepted too_few-bytes) (length bs)
+  open_end : (bs : List ℕ) → decide t bs ≡ none → after_end t bs ≡ answered (cond (is_whole (run judge bs 0)) accepted too_few_bytes) (length bs)
   unfolding after_end
-  open_end bs e = ap (λ o. Option.get_or o (answered (cond (is_whole (run judge bs 0)) accepted too_few-bytes) (length bs))) e
+  open_end bs e = ap (λ o. Option.get_or o (answered (cond (is_whole (run judge bs 0)) accepted too_few_bytes) (length bs))) e
 
   module _ (v : Admitted a) where
     refuses : (bs : List ℕ) (c d : ℕ) → decide t bs ≡ some (answered c d) ↔ Refused sha256 p context bs c d
@@ -110,7 +110,7 @@ module _ (a : Terms) where
     whole-size bs e (whole w n l) f = l
     whole-size bs e (too_few w n l) f = absurd (omega arith)
 
-    short-size : (bs : List ℕ) → decide t bs ≡ none → {c d : ℕ} → VerdictRow sha256 a bs c d → c ≡ too_few-bytes → length bs < file_length p
+    short-size : (bs : List ℕ) → decide t bs ≡ none → {c d : ℕ} → VerdictRow sha256 a bs c d → c ≡ too_few_bytes → length bs < file_length p
     short-size bs e (not_admitted n) f = absurd (n v)
     short-size bs e {c} {d} (VerdictRow.by_rule w h) f = absurd (none_some (sym e ∙ (refuses bs c d).1 h))
     short-size bs e (whole w n l) f = absurd (omega arith)
@@ -119,7 +119,7 @@ module _ (a : Terms) where
     whole_same : (bs : List ℕ) → decide t bs ≡ none → eqb (length bs) (file_length p) ≡ is_whole (run judge bs 0)
     whole_same bs e = by (is_whole (run judge bs 0)) ((end-rows bs _ _).0 (open_end bs e))
       where
-        by : (b : Bool) → VerdictRow sha256 a bs (cond b accepted too_few-bytes) (length bs) → eqb (length bs) (file_length p) ≡ b
+        by : (b : Bool) → VerdictRow sha256 a bs (cond b accepted too_few_bytes) (length bs) → eqb (length bs) (file_length p) ≡ b
         by true r = eq-eqb (length bs) (file_length p) (whole-size bs e r refl)
         by false r = ne_eqb (length bs) (file_length p) (λ l. omega (arith, short-size bs e r refl))
 
@@ -128,8 +128,8 @@ module _ (a : Terms) where
     end_same bs = by (decide t bs) refl
       where
         by : (o : Option Answer) → decide t bs ≡ o
-            → Option.get_or (decide doc bs) (answered (cond (eqb (length bs) (file_length p)) accepted too_few-bytes) (length bs))
-            ≡ Option.get_or (decide t bs) (answered (cond (is_whole (run judge bs 0)) accepted too_few-bytes) (length bs))
+            → Option.get_or (decide doc bs) (answered (cond (eqb (length bs) (file_length p)) accepted too_few_bytes) (length bs))
+            ≡ Option.get_or (decide t bs) (answered (cond (is_whole (run judge bs 0)) accepted too_few_bytes) (length bs))
         by none e = rw (decide-same bs, e, whole_same bs e)
         by (some a) e = rw (decide-same bs, e)
 
@@ -143,8 +143,8 @@ module _ (a : Terms) where
         ap (λ a. a ∷ answers (plain doc b) (holds bs true) cs) (end_same bs)
         ∙ ap (λ (l : List Answer). after_end t bs ∷ l) (shut-same b bs cs)
 
-    pub table-rule : TableRule a
-    table-rule =
+    pub table_rule : TableRule a
+    table_rule =
         record {
           refuses = λ bs c d. rw (decide-same bs) (refuses bs c d);
           silent = λ bs. rw (decide-same bs) (clean bs, unrefused bs);
@@ -159,7 +159,7 @@ module _ (a : Terms) where
     rule-number (section_1 h) = omega arith
     rule-number (coefficient i l h) = omega arith
     rule-number (value i j r l k m h) = omega arith
-    rule-number (folded-value i j l k h) = omega arith
+    rule-number (folded_value i j l k h) = omega arith
     rule-number (path i j l k h) = omega arith
     rule-number (final_value i j l k h) = omega arith
     rule-number after_the_end = omega arith

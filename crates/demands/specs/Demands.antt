@@ -68,7 +68,7 @@ pub record WhenAdmitted {S : Type 0} (a : Terms) (opening : Answer) (k : States 
   -- What is left behind. By an end call and any call after it: the closed state. By a byte that is refused: the refused state with its answer, and with
   -- the tables that were there before it. (Pieces leave what their bytes leave one by one, and a piece after a refusal leaves the state as it is.)
   pub closes : (cs : List Call) → has_end cs ≡ true → state_left r cs ≡ k.shut
-  pub refused-leaves : (cs : List Call) (x : ℕ) → has_end cs ≡ false → Refuses (to_piece r cs (x ∷ []))
+  pub refused_leaves : (cs : List Call) (x : ℕ) → has_end cs ≡ false → Refuses (to_piece r cs (x ∷ []))
       → r.piece_next (state_left r cs) (x ∷ []) ≡ k.refused_with (to_piece r cs (x ∷ [])) (k.tables_in (state_left r cs))
 
 -- Where it is refused: the admission's number at 0, and then closed, in the one closed state.
@@ -98,6 +98,6 @@ lent_states = record { shut = held_of closed_state; tables_in = λ h. h.tables; 
 
 -- Of both readers.
 pub record Readers (a : Terms) : Type 0 where
-  pub table-rule : Admitted a → TableRule a
+  pub table_rule : Admitted a → TableRule a
   pub by_value : Demands a (opened sha256 a).answer by_value_states (reader sha256 a)
   pub lent : Demands a (outcome_of (opened sha256 a)).answer lent_states (boundary sha256 a)

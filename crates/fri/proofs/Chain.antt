@@ -167,20 +167,20 @@ module _ (hash : List ℕ → Digest) (p : Params) (context : List ℕ) (proof :
     holds_after : (i j : ℕ) → i < p.q → j < p.k → (b : Bool) → ltb (suc j) p.k ≡ b → FoldsTo hash p context proof i j (value_after i j)
     holds_after i j h l true t =
         let more : suc j < p.k = ltb-true (suc j) p.k t in
-        subst (FoldsTo hash p context proof i j) (sym (after_layer i j (layout.layer-count i h) more)) (holds.folds i j h more)
+        subst (FoldsTo hash p context proof i j) (sym (after_layer i j (layout.layer_count i h) more)) (holds.folds i j h more)
     holds_after i j h l false t =
         let last : suc j ≡ p.k = omega (arith, ltb-false (suc j) p.k t) in
-        subst (FoldsTo hash p context proof i j) (sym (after_last i j (layout.layer-count i h) last)) (holds.ends i j h last)
+        subst (FoldsTo hash p context proof i j) (sym (after_last i j (layout.layer_count i h) last)) (holds.ends i j h last)
 
     pub holds_chain : (i : ℕ) → i < p.q → QueryChain i
     unfolding challenge_at leaf_at opened_leaf point_at FoldsTo
     holds_chain i h =
         layers_chain hash p proof.final proof.roots (openings i)
         (record {
-          count = layout.layer-count i h ∙ sym layout.root-count;
+          count = layout.layer_count i h ∙ sym layout.root_count;
           meets = fits-anything _;
           layer = λ t l e b.
-              let within : t < p.k = omega (arith, layout.root-count) in
+              let within : t < p.k = omega (arith, layout.root_count) in
               subst (LayerAt hash p proof.final (drawn_leaf hash p context proof i) before proof.roots (openings i) t) (omega arith)
               (record {
                 form = layout.opening_form i t h within;

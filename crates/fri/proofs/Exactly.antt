@@ -45,8 +45,8 @@ module _ (hash : List ℕ → Digest) (a : Terms) (file : List ℕ) (v : Admitte
       (extent (judgement_width hash p context) file 0) (sym verdict-admitted ∙ e)
 
   -- A file is accepted at L only, and only if that is its length.
-  pub accepted-place : (place : ℕ) → verdict hash a file ≡ answered accepted place → (place ≡ file_length p) × (length file ≡ file_length p)
-  accepted-place place e = ((ended-file place e).1, (ended-file place e).2)
+  pub accepted_place : (place : ℕ) → verdict hash a file ≡ answered accepted place → (place ≡ file_length p) × (length file ≡ file_length p)
+  accepted_place place e = ((ended-file place e).1, (ended-file place e).2)
 
   -- A file that the verdict accepts is the encoding of a proof that holds.
   pub verdict-accepted : Bytes file → verdict hash a file ≡ answered accepted (length file) → Accepted hash p context file
@@ -69,7 +69,7 @@ module _ (hash : List ℕ → Digest) (a : Terms) (file : List ℕ) (v : Admitte
 
   -- And its length is L.
   pub accepted-length : Accepted hash p context file → length file ≡ file_length p
-  accepted-length h = (accepted-place (length file) (accepted-verdict h)).1
+  accepted-length h = (accepted_place (length file) (accepted-verdict h)).1
 
 -- The theorem.
 pub accepted_exactly : (hash : List ℕ → Digest) (a : Terms) (file : List ℕ) → Admitted a → Bytes file

@@ -7,7 +7,7 @@ use native.Mathlib.Omega.{arith}
 use lib.Dec.{leb, ltb, eqb}
 use lib.ListN.{length, get_or, take, drop, length-take, take-append-drop}
 use borrow.Author.Tests.{leb-true, leb-false, ltb-true, eqb-true}
-use Rattle.answer.specs.Table.{count_differs, parameters_differ, not_below_modulus, not_the_folded-value, path_misses_root, misses_final_polynomial}
+use Rattle.answer.specs.Table.{count_differs, parameters_differ, not_below_modulus, not_the_folded_value, path_misses_root, misses_final_polynomial}
 use Rattle.params.specs.declared.Params.{Params}
 use Rattle.params.specs.Parameters.{header_size, header, values_per_leaf, height, leaf_count, index_bits, final_count}
 use Rattle.field.specs.Modular.{p as modulus}
@@ -205,11 +205,11 @@ module _ (hash : List ℕ → Digest) (p : Params) where
   unfolding walk query_bytes opening_bytes joined words
   inverts_walk final j m e s [] = inverts_ensure _ misses_final_polynomial (λ t. record { openings = []; bytes = refl; chain = end t })
   inverts_walk final j m e s (root ∷ roots) =
-      inverts_next _ (inverts_many 0 (values_per_leaf p) inverts_number) (λ values hv. inverts_test _ not_the_folded-value (λ met.
+      inverts_next _ (inverts_many 0 (values_per_leaf p) inverts_number) (λ values hv. inverts_test _ not_the_folded_value (λ met.
       inverts_next _ (inverts_digests (height p j)) (λ siblings h. inverts_test _ path_misses_root (λ met-root.
       weaken (inverts_walk final (suc j) (m % leaf_count p j) _ (absorb hash s root) roots) (λ us _ rest.
       let o : Opening = record { values = values; siblings = siblings } in
-      let form : IsOpening p j o = record { value-count = hv.count; value-below = hv.each; sibling-count = h.count; sibling = h.each } in
+      let form : IsOpening p j o = record { value_count = hv.count; value_below = hv.each; sibling_count = h.count; sibling = h.each } in
       record {
         openings = o ∷ rest.openings;
         bytes = rw rest.bytes (simp append_assoc);
@@ -250,12 +250,12 @@ module _ (hash : List ℕ → Digest) (p : Params) where
       record {
         proof = proof;
         layout = record {
-          root-count = hr.count;
+          root_count = hr.count;
           root_digest = hr.each;
-          final-count = hf.count;
-          final-below = hf.each;
-          query-count = asked.count;
-          layer-count = chains_count hash p context proof hr.count chains;
+          final_count_lem = hf.count;
+          final_below = hf.each;
+          query_count = asked.count;
+          layer_count = chains_count hash p context proof hr.count chains;
           opening_form = chains_form hash p context proof hr.count chains;
         };
         bytes = rw (same-equal parameters (header p) same, asked.bytes);

@@ -6,7 +6,7 @@ use native.Mathlib.Omega.{arith}
 use lib.Dec.{ltb}
 use lib.ListN.{length, get_or}
 use borrow.Author.Tests.{lt-ltb, eq-eqb}
-use Rattle.answer.specs.Table.{count_differs, parameters_differ, not_below_modulus, not_the_folded-value, path_misses_root, misses_final_polynomial}
+use Rattle.answer.specs.Table.{count_differs, parameters_differ, not_below_modulus, not_the_folded_value, path_misses_root, misses_final_polynomial}
 use Rattle.params.specs.declared.Params.{Params}
 use Rattle.params.specs.Parameters.{Valid, header_size, header, index_bits, final_count}
 use Rattle.params.proofs.ParameterLaws.{final-small}
@@ -49,9 +49,9 @@ module _ (hash : List ℕ → Digest) (p : Params) where
   reads_walk (end h) = reads_ensure _ misses_final_polynomial h
   reads_walk (layer {root = root} {o = o} {os = os} form h opens rest) =
       simp append_assoc
-      (reads_bind _ (reads_numbers _ o.values form.value-count form.value-below)
-      (reads_test _ not_the_folded-value h
-      (reads_bind _ (reads_digests _ o.siblings form.sibling-count form.sibling)
+      (reads_bind _ (reads_numbers _ o.values form.value_count form.value_below)
+      (reads_test _ not_the_folded_value h
+      (reads_bind _ (reads_digests _ o.siblings form.sibling_count form.sibling)
       (reads_test _ path_misses_root (rw opens (same_self root)) (reads_walk rest)))))
 
   -- Queries from query i on: the c-th of them is query l = i + c.
@@ -74,11 +74,11 @@ module _ (hash : List ℕ → Digest) (p : Params) where
       (reads_bind {xs = header p} _ (reads_bytes (header p) header_size refl)
       (reads_test _ parameters_differ (same_self (header p))
       (reads_then (reads_count p.k (omega arith))
-      (reads_bind _ (reads_digests p.k proof.roots layout.root-count layout.root_digest)
+      (reads_bind _ (reads_digests p.k proof.roots layout.root_count layout.root_digest)
       (reads_then (reads_count (final_count p) (omega (arith, final-small p v)))
-      (reads_bind _ (reads_numbers (final_count p) proof.final layout.final-count layout.final-below)
+      (reads_bind _ (reads_numbers (final_count p) proof.final layout.final_count_lem layout.final_below)
       (reads_then (reads_count p.q (omega arith))
-      (subst (λ c. Reads (queries hash p c 0 proof.final t s proof.roots) (joined (map query_bytes proof.queries)) tt) layout.query-count
+      (subst (λ c. Reads (queries hash p c 0 proof.final t s proof.roots) (joined (map query_bytes proof.queries)) tt) layout.query_count
       (reads_queries proof.final t s proof.roots proof.queries 0 (λ c l e h.
       let same : l ≡ c = omega arith in
-      rw same (holds_chain hash p context proof layout holds c (omega (arith, layout.query-count)))))))))))))
+      rw same (holds_chain hash p context proof layout holds c (omega (arith, layout.query_count)))))))))))))

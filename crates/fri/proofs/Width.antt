@@ -5,7 +5,7 @@ use mathlib.Core.Path.{◌≡◌, ap, ◌∙◌, subst}
 use native.Mathlib.Nat.{zero-mul, suc-mul}
 use native.Mathlib.Omega.{arith}
 use lib.ListN.{length}
-use Rattle.answer.specs.Table.{answered, accepted, count_differs, parameters_differ, not_below_modulus, not_the_folded-value, path_misses_root, misses_final_polynomial}
+use Rattle.answer.specs.Table.{answered, accepted, count_differs, parameters_differ, not_below_modulus, not_the_folded_value, path_misses_root, misses_final_polynomial}
 use Rattle.params.specs.declared.Params.{Params}
 use Rattle.params.specs.Parameters.{header_size, header, values_per_leaf, height, leaf_count, index_bits, final_count, query_length, queries_offset, file_length}
 use Rattle.message.specs.Message.{Digest}
@@ -30,7 +30,7 @@ module _ (hash : List ℕ → Digest) (p : Params) where
   takes_walk final j m e s [] = takes_ensure _ misses_final_polynomial (omega arith)
   takes_walk final j m e s (root ∷ roots) =
       subst (λ w. Takes (walk hash p final j m e s (root ∷ roots)) w Any) (omega arith)
-      (takes_bind _ (takes_many (values_per_leaf p) takes_number) (λ values _. takes_then (takes_ensure _ not_the_folded-value (omega arith))
+      (takes_bind _ (takes_many (values_per_leaf p) takes_number) (λ values _. takes_then (takes_ensure _ not_the_folded_value (omega arith))
       (takes_bind _ (takes_many (height p j) (takes_bytes 32)) (λ siblings _. takes_then (takes_ensure _ path_misses_root (omega arith))
       (takes_walk final (suc j) (m % leaf_count p j) _ (absorb hash s root) roots)))))
 

@@ -53,17 +53,17 @@ pub record IsDigest (d : Digest) : Type 0 where
 
 -- An opening in layer j: numbers below the modulus, and a sibling for each height.
 pub record IsOpening (p : Params) (j : ℕ) (o : Opening) : Type 0 where
-  pub value-count : length o.values ≡ values_per_leaf p
-  pub value-below : (r : ℕ) → r < values_per_leaf p → get_or o.values r 0 < modulus
-  pub sibling-count : length o.siblings ≡ height p j
+  pub value_count : length o.values ≡ values_per_leaf p
+  pub value_below : (r : ℕ) → r < values_per_leaf p → get_or o.values r 0 < modulus
+  pub sibling_count : length o.siblings ≡ height p j
   pub sibling : (h : ℕ) → h < height p j → IsDigest (get_or o.siblings h [])
 
 -- The proof has the sizes that the parameters give.
 pub record HasLayout (p : Params) (proof : Proof) : Type 0 where
-  pub root-count : length proof.roots ≡ p.k
+  pub root_count : length proof.roots ≡ p.k
   pub root_digest : (j : ℕ) → j < p.k → IsDigest (root_at proof j)
-  pub final-count : length proof.final ≡ final_count p
-  pub final-below : (i : ℕ) → i < final_count p → get_or proof.final i 0 < modulus
-  pub query-count : length proof.queries ≡ p.q
-  pub layer-count : (i : ℕ) → i < p.q → length (get_or proof.queries i []) ≡ p.k
+  pub final_count_lem : length proof.final ≡ final_count p
+  pub final_below : (i : ℕ) → i < final_count p → get_or proof.final i 0 < modulus
+  pub query_count : length proof.queries ≡ p.q
+  pub layer_count : (i : ℕ) → i < p.q → length (get_or proof.queries i []) ≡ p.k
   pub opening_form : (i j : ℕ) → i < p.q → j < p.k → IsOpening p j (opening_at proof i j)

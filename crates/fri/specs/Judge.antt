@@ -2,7 +2,7 @@
 -- bytes that decide it. So a refusal's place is the last byte of what decides, and of two tests at one byte the earlier one goes first.
 use Rattle.std.specs.Prelude.{ℕ, zero, suc, ◌+◌, ◌%◌, ◌/◌, Bool, true, false, ◌&&◌, cond, List, [], ◌∷◌, ltb, eqb, length, get_or}
 use Rattle.answer.specs.declared.Answer.{Answer}
-use Rattle.answer.specs.Table.{answered, open_so_far, accepted, count_differs, parameters_differ, not_below_modulus, not_the_folded-value, path_misses_root, misses_final_polynomial, too_few-bytes, byte_after_the_end}
+use Rattle.answer.specs.Table.{answered, open_so_far, accepted, count_differs, parameters_differ, not_below_modulus, not_the_folded_value, path_misses_root, misses_final_polynomial, too_few_bytes, byte_after_the_end}
 use Rattle.params.specs.declared.Params.{Params}
 use Rattle.params.specs.declared.Terms.{Terms}
 use Rattle.params.specs.Admission.{admission_of}
@@ -48,7 +48,7 @@ module _ (hash : List ℕ → Digest) (p : Params) where
   walk final j m e s [] = ensure (fits e (eval final (point p.n (depth p j) m))) misses_final_polynomial
   walk final j m e s (root ∷ roots) = do
     values ← many (values_per_leaf p) number
-    ensure (fits e (value_at p j m values)) not_the_folded-value
+    ensure (fits e (value_at p j m values)) not_the_folded_value
     siblings ← many (height p j) (bytes 32)
     ensure (same_bytes (climb hash (leaf_digest hash j values) (m % leaf_count p j) siblings) root) path_misses_root
     walk final (suc j) (m % leaf_count p j) (expected (point p.n (depth p j) (m % leaf_count p j)) (challenge hash (absorb hash s root)) values) (absorb hash s root) roots
@@ -86,7 +86,7 @@ piece_answer (ended (x ∷ xs) place) total = answered byte_after_the_end (place
 
 -- The answer to the end call.
 unfoldable pub end_answer : Result → ℕ → Answer
-end_answer short total = answered too_few-bytes total
+end_answer short total = answered too_few_bytes total
 end_answer (refused number place) total = answered number place
 end_answer (ended [] place) total = answered accepted place
 end_answer (ended (x ∷ xs) place) total = answered byte_after_the_end (place + 1)

@@ -36,12 +36,12 @@ opening_size : (p : Params) (j : ℕ) (o : Opening) → IsOpening p j o → leng
 unfolding opening_bytes
 opening_size p j o form =
     let digests : length (joined o.siblings) ≡ 32 * length o.siblings =
-    joined_length (sized 32 o.siblings (λ h l. (form.sibling h (omega (arith, form.sibling-count))).size)) in
+    joined_length (sized 32 o.siblings (λ h l. (form.sibling h (omega (arith, form.sibling_count))).size)) in
     omega (
       arith,
       digests,
-      form.sibling-count,
-      form.value-count,
+      form.sibling_count,
+      form.value_count,
       words-length o.values,
       length-append (words o.values) (joined o.siblings),
     )
@@ -89,29 +89,29 @@ module _ (p : Params) where
     openings : (i : ℕ) → i < p.q → Openings 0 (get_or proof.queries i [])
     openings i h c l e k =
         let same : l ≡ c = omega arith in
-        rw same (opening_size p c (opening_at proof i c) (layout.opening_form i c h (omega (arith, layout.layer-count i h))))
+        rw same (opening_size p c (opening_at proof i c) (layout.opening_form i c h (omega (arith, layout.layer_count i h))))
 
     queries_sized : Sized (query_length p 0 p.k) (map query_bytes proof.queries)
     queries_sized =
         sized _ _ (λ i h.
-        let inside : i < p.q = omega (arith, layout.query-count, length-map proof.queries query_bytes) in
+        let inside : i < p.q = omega (arith, layout.query_count, length-map proof.queries query_bytes) in
         ap length (query_at proof.queries i)
         ∙ query-size 0 (get_or proof.queries i []) (openings i inside)
-        ∙ ap (query_length p 0) (layout.layer-count i inside))
+        ∙ ap (query_length p 0) (layout.layer_count i inside))
 
     front_size : length (front p proof) ≡ queries_offset p
     unfolding words queries_offset
     front_size =
         let roots : length (joined proof.roots) ≡ 32 * length proof.roots =
-        joined_length (sized 32 proof.roots (λ j h. (layout.root_digest j (omega (arith, layout.root-count))).size)) in
+        joined_length (sized 32 proof.roots (λ j h. (layout.root_digest j (omega (arith, layout.root_count))).size)) in
         let final : length (words proof.final) ≡ 4 * length (map (le 4) proof.final) = joined_length (words_sized proof.final) in
         simp length-append
         (omega (
           arith,
           roots,
           final,
-          layout.root-count,
-          layout.final-count,
+          layout.root_count,
+          layout.final_count_lem,
           length-map proof.final (le 4),
           le-length 2 4,
           le-length 2 p.k,
@@ -127,7 +127,7 @@ module _ (p : Params) where
         ∙ length-append (front p proof) (joined (map query_bytes proof.queries))
         ∙ ap₂ (λ u v. u + v) front_size
         (joined_length queries_sized
-        ∙ ap (λ u. query_length p 0 p.k * u) (length-map proof.queries query_bytes ∙ layout.query-count)
+        ∙ ap (λ u. query_length p 0 p.k * u) (length-map proof.queries query_bytes ∙ layout.query_count)
         ∙ mul_comm (query_length p 0 p.k) p.q)
 
     module _ (i j : ℕ) (query : i < p.q) (layer : j < p.k) where
@@ -135,7 +135,7 @@ module _ (p : Params) where
           ≡ query_bytes (get_or proof.queries i [])
       query-bytes =
           ap (part (query_length p 0 p.k * i) (query_length p 0 p.k)) (sym (append-nil (joined (map query_bytes proof.queries))))
-          ∙ joined_at queries_sized [] i (omega (arith, query, layout.query-count, length-map proof.queries query_bytes))
+          ∙ joined_at queries_sized [] i (omega (arith, query, layout.query_count, length-map proof.queries query_bytes))
           ∙ query_at proof.queries i
 
       -- Where the parameters say, there stand the bytes of the opening of query i in layer j.
@@ -149,7 +149,7 @@ module _ (p : Params) where
           ∙ part_after (front p proof) rest (queries_offset p) (Q * i + query_length p 0 j) (opening_length p j) front_size
           ∙ sym (part-part (Q * i) Q (query_length p 0 j) (opening_length p j) rest (layer_within p 0 j j p.k (omega arith) layer))
           ∙ ap (part (query_length p 0 j) (opening_length p j)) query-bytes
-          ∙ layer_at_lem 0 (get_or proof.queries i []) (openings i query) j j (omega arith) (omega (arith, layer, layout.layer-count i query))
+          ∙ layer_at_lem 0 (get_or proof.queries i []) (openings i query) j j (omega arith) (omega (arith, layer, layout.layer_count i query))
 
       -- So the look-up finds it.
       pub encoded_answer : admission p ≡ open_so_far → look_up_answer p (encode p proof) i j ≡ answered open_so_far 0

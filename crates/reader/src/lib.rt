@@ -5,7 +5,7 @@
 ghost use Rattle.std.specs.Prelude.{◌≡◌, cond, ◌+◌, ◌<◌, ltb, length};
 ghost use Rattle.sha256.specs.Sha256.{sha256};
 ghost use Rattle.reader_model.specs.State.{item_length, closed_state, tables, whole};
-ghost use Rattle.answer.specs.Table.{open_so_far, accepted, too_few-bytes};
+ghost use Rattle.answer.specs.Table.{open_so_far, accepted, too_few_bytes};
 ghost use Rattle.reader_model.specs.Model.{is_stopped, is_tail, open_answer, started, replied, pieced, ends_inside, filled_item, ended, opened};
 
 use answer::Answer;
@@ -102,7 +102,7 @@ pub fn piece(state: Reader, bytes: &[u8]) -> Reply
 
 // The number of an open reader's end call.
 fn end_number(stage: Stage) -> u8
-    ensures { result ≡ cond (is_tail stage) accepted too_few-bytes }
+    ensures { result ≡ cond (is_tail stage) accepted too_few_bytes }
 {
     if reader_items::state::is_tail(stage) {
         answer::ACCEPTED

@@ -7,7 +7,7 @@ use native.Mathlib.Omega.{arith}
 use lib.Dec.{leb, ltb}
 use lib.ListN.{length, get_or}
 use Rattle.answer.specs.declared.Answer.{Answer}
-use Rattle.answer.specs.Table.{answered, open_so_far, accepted, closed, too_few-bytes, is_fault}
+use Rattle.answer.specs.Table.{answered, open_so_far, accepted, closed, too_few_bytes, is_fault}
 use Rattle.message.specs.Message.{Digest}
 use Rattle.params.specs.declared.Terms.{Terms}
 use Rattle.calls.specs.Calls.{Call, piece, end, next, reply, answers}
@@ -52,7 +52,7 @@ module _ (hash : List ℕ → Digest) (a : Terms) where
   reply_in_the_table r end =
       answer_passes (is_number_for end) (λ number e. rw e) refl _ (by (is_tail r.core.stage)) r.core
     where
-      by : (b : Bool) → is_number_for end (cond b accepted too_few-bytes) ≡ true
+      by : (b : Bool) → is_number_for end (cond b accepted too_few_bytes) ≡ true
       by true = refl
       by false = refl
 

@@ -7,7 +7,7 @@ use native.Mathlib.Omega.{arith}
 use lib.ListN.{length, take, drop, get_or, length-append, length-set}
 use lib.Seq.{get_or_at}
 use borrow.Author.Tests.{lt-ltb, le-ltb}
-use Rattle.answer.specs.Table.{not_the_folded-value, path_misses_root, misses_final_polynomial}
+use Rattle.answer.specs.Table.{not_the_folded_value, path_misses_root, misses_final_polynomial}
 use Rattle.message.specs.Message.{Digest}
 use Rattle.params.specs.Parameters.{index_bits, depth, values_per_leaf, height}
 use Rattle.domain.specs.Domain.{point}
@@ -114,7 +114,7 @@ module _ (hash : List ℕ → Digest) (first : Digest) (c : Core) (t : Tables) (
         let vs = leaf_of c (values_with c) in
         after_number c t (with_value hash c.params first w c.walk.index (wanted c.walk) values zero) (λ _.
         leaves_false _ _ (le-ltb (c.cursor.value + 1) (values_per_leaf c.params) (omega arith))
-        (tested c _ _ not_the_folded-value _ refl
+        (tested c _ _ not_the_folded_value _ refl
         (ap (λ u. fits (wanted c.walk) (value_at c.params c.cursor.layer c.walk.index u)) all) (λ _.
         leaves_as (goes (with_values s (length-set c.walk.values c.cursor.value (item_number c) ∙ s.values-size)) (sibling w left (omega arith)) refl refl)
         (sym (siblings-more hash c.params first w (leaf_index c) (expected (leaf_point c) β vs) left (leaf_digest hash c.cursor.layer vs) (leaf_index c))

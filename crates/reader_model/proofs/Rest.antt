@@ -5,7 +5,7 @@ use mathlib.Core.List.{List, [], ◌∷◌, ◌++◌}
 use mathlib.Core.Path.{◌≡◌, refl, ap}
 use lib.Dec.{ltb, eqb}
 use lib.ListN.{length}
-use Rattle.answer.specs.Table.{answered, count_differs, parameters_differ, not_below_modulus, not_the_folded-value, path_misses_root, is_fault}
+use Rattle.answer.specs.Table.{answered, count_differs, parameters_differ, not_below_modulus, not_the_folded_value, path_misses_root, is_fault}
 use Rattle.field.specs.Modular.{p as modulus}
 use Rattle.message.specs.Bytes.{num, joined}
 use Rattle.message.specs.Message.{Digest}
@@ -123,7 +123,7 @@ module _ (hash : List ℕ → Digest) (p : Params) (first : Digest) where
     -- With the values of the layer's leaf, at the index m, where they must meet e; and with a value after these, so many more to come.
     abbrev pub with_leaf : ℕ → Expected → List ℕ → Process
     with_leaf m e values =
-        ensure (fits e (value_at p layer m values)) not_the_folded-value
+        ensure (fits e (value_at p layer m values)) not_the_folded_value
         (λ _. to_siblings (m % leaf_count p layer)
         (expected (point p.n (depth p layer) (m % leaf_count p layer)) (challenge hash (absorb hash w.earlier w.root)) values)
         (height p layer) (leaf_digest hash layer values) (m % leaf_count p layer))
@@ -202,7 +202,7 @@ module _ (hash : List ℕ → Digest) (first : Digest) where
         → Waiting p c w transcript t ParameterCount 2 (counting header_size (need header_size (with_parameters hash p first)))
     parameters : Early hash p first c.coefficient transcript t [] [] → c.layer ≡ 0
         → Waiting p c w transcript t Parameters header_size (with_parameters hash p first)
-    root-count : Early hash p first c.coefficient transcript t [] [] → c.layer ≡ 0
+    root_count : Early hash p first c.coefficient transcript t [] [] → c.layer ≡ 0
         → Waiting p c w transcript t RootCount 2 (counting p.k (many p.k (bytes 32) (to_section3 hash p first)))
     root : {roots : List Digest} (more : ℕ) → Early hash p first c.coefficient transcript t roots [] → c.layer ≡ length roots
         → length roots + suc more ≡ p.k → Waiting p c w transcript t Root 32 (with_root hash p first roots more)
@@ -211,7 +211,7 @@ module _ (hash : List ℕ → Digest) (first : Digest) where
     coefficient : {roots : List Digest} {final : List ℕ} (more : ℕ) → Early hash p first c.coefficient transcript t roots final
         → length roots ≡ p.k → length final + suc more ≡ final_count p
         → Waiting p c w transcript t Coefficient 4 (numbered (with_coefficient hash p first roots final more))
-    query-count : {roots : List Digest} {final : List ℕ} → Late hash p first transcript t roots final
+    query_count : {roots : List Digest} {final : List ℕ} → Late hash p first transcript t roots final
         → Waiting p c w transcript t QueryCount 2 (counting p.q (to_queries hash p first roots final p.q 0))
     value : (x : Walking hash p first c.query c.layer transcript t) {values : List ℕ} (more : ℕ) → c.height ≡ 0
         → Filled 4 values w.values → length values ≡ c.value → length values + suc more ≡ values_per_leaf p

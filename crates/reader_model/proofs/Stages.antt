@@ -24,7 +24,7 @@ use Rattle.reader_model.specs.declared.Tables.{Tables}
 use Rattle.reader_model.specs.State.{place, moved_to}
 use Rattle.reader_model.specs.Items.{refused, count_of, item_number, finals, after_parameters, root_state, after_root, roots_after, challenges_after, after_coefficient, coefficients_after, after_item}
 use Rattle.reader_model.proofs.Filled.{filled_set, filled_sets, filled_take, sized_snoc, joined_snoc, challenges_snoc, challenges_length, absorbed_snoc}
-use Rattle.reader_model.proofs.Rest.{counting, numbered, to_section2, to_section3, to_section4, with_root, with_coefficient, with_parameters, Read, Early, at_cursor, Sound, EarlyAt, root, coefficient-count, coefficient, query-count, After, goes, stops}
+use Rattle.reader_model.proofs.Rest.{counting, numbered, to_section2, to_section3, to_section4, with_root, with_coefficient, with_parameters, Read, Early, at_cursor, Sound, EarlyAt, root, coefficient-count, coefficient, query_count, After, goes, stops}
 
 -- The number of final coefficients, of valid parameters.
 pub finals_are : (c : Core) → Sound c → finals c ≡ final_count c.params
@@ -144,7 +144,7 @@ module _ {hash : List ℕ → Digest} {first : Digest} (c : Core) (t : Tables) (
       let now = read_coefficient roots final e (omega arith) low in
       leaves_false _ _ (le-ltb (c.cursor.coefficient + 1) (finals c) (omega (arith, finals_are c s, e.coefficient-next)))
       (goes (at_cursor s (omega arith) (omega arith) (omega arith) (omega arith) (omega arith))
-      (query-count {roots = roots} {final = final ++ item_number c ∷ []} (record {
+      (query_count {roots = roots} {final = final ++ item_number c ∷ []} (record {
         read = now;
         transcript_is = ap₂ (absorb_final hash) e.transcript_is (filled_take now.final_kept (finals c) long);
         all_roots = full;

@@ -17,7 +17,7 @@ use Rattle.fri.specs.Judge.{judgement, verdict}
 use Rattle.fri.proofs.Width.{sections_width}
 use Rattle.fri.proofs.Exactly.{accepted_exactly}
 use Rattle.calls.specs.Calls.{Call, piece, end, has_end, ends_once, joined, state_after, state_left, answers, last_given, by_byte, Reader as Calls}
-use Rattle.calls.proofs.Follows.{Shut, state-left, shut_by_byte, refused_opening, refused-leaves}
+use Rattle.calls.proofs.Follows.{Shut, state-left, shut_by_byte, refused_opening, refused_leaves}
 use Rattle.calls.proofs.Denotes.{follows, denotes_demand3, denotes_states, denotes_prefix, denotes_size, piece_judged, end_judged, ends_judged}
 use Rattle.reader_model.specs.declared.Reader.{Reader}
 use Rattle.reader_model.specs.State.{closed_state}
@@ -63,7 +63,7 @@ module _ (hash : List ℕ → Digest) (a : Terms) where
         answer = refl;
         plainly = rw e (refused_opening (table hash a) (from closed_state) shut cs);
         closed_each = λ i h. rw e (each shut cs i h);
-        fixed = rw e (refused-leaves (table hash a) (from closed_state) shut cs);
+        fixed = rw e (refused_leaves (table hash a) (from closed_state) shut cs);
         verdicts = λ file. rw e;
       }
     where
@@ -120,7 +120,7 @@ module _ (hash : List ℕ → Digest) (a : Terms) where
           refused_core = λ xs e.
               rw (admits_true a.params v)
               (refused_core hash first (reaches hash first xs (reached cs beginning (started_reached hash first a.params (admitted-valid a.params v)) e)));
-          closed-state = closing cs;
+          closed_state_lem = closing cs;
           within_bounds = bounded cs (has_end cs) refl;
         }
 

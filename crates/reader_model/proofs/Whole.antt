@@ -11,7 +11,7 @@ use lib.ListN.{length, take, set, length-set}
 use lib.Seq.{take_all, take-suc-set, length-take-le}
 use borrow.Author.Tests.{lt-ltb, le-ltb, le-leb, ltb-true, ltb-false, eqb-true}
 use Rattle.answer.specs.declared.Answer.{Answer}
-use Rattle.answer.specs.Table.{answered, open_so_far, accepted, too_few-bytes, byte_after_the_end, is_fault}
+use Rattle.answer.specs.Table.{answered, open_so_far, accepted, too_few_bytes, byte_after_the_end, is_fault}
 use Rattle.message.specs.Bytes.{joined}
 use Rattle.message.specs.Message.{Digest}
 use Rattle.message.proofs.Bytes.{Sized}
@@ -37,7 +37,7 @@ use Rattle.reader_model.specs.State.{item_length, stopped, closed_state, place}
 use Rattle.reader_model.specs.Items.{sane, refused, finals, after_count, after_query_count, after_item, advanced}
 use Rattle.reader_model.specs.Model.{stored, step, fed, is_stopped, is_tail, open_answer, told, answer_of, pieced, ended, started}
 use Rattle.reader_model.proofs.Filled.{challenges}
-use Rattle.reader_model.proofs.Rest.{counting, with_parameters, to_section3, to_section4, to_queries, sections_are, Sound, Waiting, At, parameter_count, parameters, root-count, root, coefficient-count, coefficient, query-count, value, sibling, After, goes, stops}
+use Rattle.reader_model.proofs.Rest.{counting, with_parameters, to_section3, to_section4, to_queries, sections_are, Sound, Waiting, At, parameter_count, parameters, root_count, root, coefficient-count, coefficient, query_count, value, sibling, After, goes, stops}
 use Rattle.reader_model.proofs.Rest
 use Rattle.reader_model.proofs.Stages.{finals_are, finals-low, pred_of, leaves_as, after_count_lem, after_parameters_lem, after_root_lem, after_coefficient_lem}
 use Rattle.reader_model.proofs.Queries.{begin_query, after_value_lem, after_sibling_lem}
@@ -89,11 +89,11 @@ module _ (hash : List ℕ → Digest) (first : Digest) where
       → Waiting hash first p c w s t g u f → Waits g u
   waits ParameterCount u (parameter_count e l) = open_item refl (omega arith) (omega arith) refl refl
   waits Parameters u (parameters e l) = open_item refl (omega arith) (omega arith) refl refl
-  waits RootCount u (root-count e l) = open_item refl (omega arith) (omega arith) refl refl
+  waits RootCount u (root_count e l) = open_item refl (omega arith) (omega arith) refl refl
   waits Root u (root more e l total) = open_item refl (omega arith) (omega arith) refl refl
   waits CoefficientCount u (coefficient-count e l) = open_item refl (omega arith) (omega arith) refl refl
   waits Coefficient u (coefficient more e l total) = open_item refl (omega arith) (omega arith) refl refl
-  waits QueryCount u (query-count l) = open_item refl (omega arith) (omega arith) refl refl
+  waits QueryCount u (query_count l) = open_item refl (omega arith) (omega arith) refl refl
   waits Value u (value w more h f e total) = open_item refl (omega arith) (omega arith) refl refl
   waits Sibling u (sibling w more h) = open_item refl (omega arith) (omega arith) refl refl
   waits Tail u x = elim x [ ]
@@ -105,8 +105,8 @@ module _ (hash : List ℕ → Digest) (first : Digest) where
   unfolding many ◌>>=◌ ◌>>◌ bytes pure number after_count after_query_count
   dispatch c t s ParameterCount u f (parameter_count e l) =
       after_count_lem c t header_size header_size (need header_size (with_parameters hash c.params first)) refl (goes s (parameters e l) refl refl)
-  dispatch c t s Parameters u f (parameters e l) = after_parameters_lem c t (goes s (root-count e l) refl refl)
-  dispatch c t s RootCount u f (root-count e l) =
+  dispatch c t s Parameters u f (parameters e l) = after_parameters_lem c t (goes s (root_count e l) refl refl)
+  dispatch c t s RootCount u f (root_count e l) =
       let (more, k-is) = pred_of c.params.k (omega arith) in
       after_count_lem c t c.params.k c.params.k (many c.params.k (bytes 32) (to_section3 hash c.params first)) refl
       (leaves_as (goes s (root {roots = []} more e l (omega arith)) refl refl)
@@ -120,7 +120,7 @@ module _ (hash : List ℕ → Digest) (first : Digest) where
       (leaves_as (goes s (coefficient {roots = roots} {final = []} more e l (omega arith)) refl refl)
       (ap (λ x. many x number (to_section4 hash c.params first roots)) (sym F-is)))
   dispatch c t s Coefficient u f (coefficient {roots} {final} more e l total) = after_coefficient_lem c t s roots final more e l total
-  dispatch c t s QueryCount u f (query-count {roots} {final} l) =
+  dispatch c t s QueryCount u f (query_count {roots} {final} l) =
       let (more, q-is) = pred_of c.params.q (omega arith) in
       after_count_lem c t c.params.q c.params.q (to_queries hash c.params first roots final c.params.q 0) refl
       (leaves_as (begin_query hash first c t s roots final 0 more l (omega arith))
@@ -290,7 +290,7 @@ module _ (hash : List ℕ → Digest) (first : Digest) where
   unfolding ended answer_of outcome end_answer
   end_said {r} (reads {u} {d = d} s a h l e w few) =
       let here = waits hash first r.core.stage u a in
-      rw (here.not_stopped, open_is _ r.core (omega arith) (omega arith), e) (ap (λ b. answered (cond b accepted too_few-bytes) d) here.not_tail)
+      rw (here.not_stopped, open_is _ r.core (omega arith) (omega arith), e) (ap (λ b. answered (cond b accepted too_few_bytes) d) here.not_tail)
   end_said {r} (whole {d} s tail none e few) =
       let there : place r.core ≡ d = omega arith in
       rw (tail, open_is accepted r.core (omega arith) (omega arith), there)

@@ -1,7 +1,7 @@
 -- What is claimed of the reader, for every hash, any arguments of the opening and every list of calls: the user's third demand, and what an accepted
 -- file is (the second), as the answers of the reader's own calls.
 use Rattle.std.specs.Prelude.{ℕ, ◌<◌, Bool, true, false, ◌||◌, List, ◌++◌, ◌↔◌, ◌≡◌, length, eqb}
-use Rattle.answer.specs.Table.{answered, open_so_far, accepted, closed, too_few-bytes, is_fault}
+use Rattle.answer.specs.Table.{answered, open_so_far, accepted, closed, too_few_bytes, is_fault}
 use Rattle.message.specs.Message.{Digest}
 use Rattle.message.specs.Bytes.{Bytes}
 use Rattle.params.specs.declared.Terms.{Terms}
@@ -37,7 +37,7 @@ module _ (hash : List ℕ → Digest) (a : Terms) where
 -- Whether the table has this number for such a call: only a piece can get 0, and only the end call 1 or 26.
 abbrev pub is_number_for : Call → ℕ → Bool
 is_number_for (piece bytes) number = is_fault number || eqb number closed || eqb number open_so_far
-is_number_for end number = is_fault number || eqb number closed || eqb number too_few-bytes || eqb number accepted
+is_number_for end number = is_fault number || eqb number closed || eqb number too_few_bytes || eqb number accepted
 
 -- An opening that is admitted, and then these calls.
 pub record Opened (hash : List ℕ → Digest) (a : Terms) (cs : List Call) : Type 0 where
@@ -59,7 +59,7 @@ pub record Opened (hash : List ℕ → Digest) (a : Terms) (cs : List Call) : Ty
   -- what is left behind: by a refusal, the small part of a stopped reader with that answer; by an end call, the one closed state
   pub refused_core : (xs : List ℕ) → has_end cs ≡ false → Refuses (to_piece (reader hash a) cs xs)
       → ((reader hash a).piece_next (state_left (reader hash a) cs) xs).core ≡ stopped (to_piece (reader hash a) cs xs)
-  pub closed-state : has_end cs ≡ true → state_left (reader hash a) cs ≡ closed_state
+  pub closed_state_lem : has_end cs ≡ true → state_left (reader hash a) cs ≡ closed_state
   -- every state that is left keeps the bounds that each item is tested for, so the test never stops a reader
   pub within_bounds : sane (state_left (reader hash a) cs).core ≡ true
 

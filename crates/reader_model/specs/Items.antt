@@ -1,7 +1,7 @@
 -- What a whole item does to the state, stage by stage: the tests of the judgement, in its order, over what the state has kept.
 use Rattle.std.specs.Prelude.{ℕ, ◌+◌, ◌*◌, ◌/◌, ◌%◌, Bool, cond, ◌&&◌, List, get_or, set, take, drop, ltb, leb, eqb}
 use Rattle.std.proofs.lemmas.List.Edits.{sets}
-use Rattle.answer.specs.Table.{answered, closed, count_differs, parameters_differ, not_below_modulus, not_the_folded-value, path_misses_root, misses_final_polynomial, byte_after_the_end}
+use Rattle.answer.specs.Table.{answered, closed, count_differs, parameters_differ, not_below_modulus, not_the_folded_value, path_misses_root, misses_final_polynomial, byte_after_the_end}
 use Rattle.field.specs.Modular.{p as modulus}
 use Rattle.message.specs.Bytes.{num}
 use Rattle.message.specs.Message.{Digest}
@@ -161,7 +161,7 @@ module _ (hash : List ℕ → Digest) where
   after_leaf c challenges values =
       cond (linked c values)
       (moved_to (with_walk c (at_leaf c (get_or challenges c.cursor.layer 0) values)) Sibling)
-      (refused c not_the_folded-value)
+      (refused c not_the_folded_value)
 
   -- A value is kept until the last one is there.
   unfoldable pub after_value : Core → List ℕ → Core

@@ -3,7 +3,7 @@ use Rattle.std.specs.Prelude.{ℕ, ◌+◌, Bool, cond, ◌&&◌, length, set, r
 use mathlib.Core.List.{foldl}
 use Rattle.std.proofs.lemmas.List.Edits.{sets}
 use Rattle.answer.specs.declared.Answer.{Answer}
-use Rattle.answer.specs.Table.{answered, open_so_far, accepted, closed, too_few-bytes, is_fault}
+use Rattle.answer.specs.Table.{answered, open_so_far, accepted, closed, too_few_bytes, is_fault}
 use Rattle.message.specs.Message.{Digest}
 use Rattle.params.specs.declared.Params.{Params}
 use Rattle.params.specs.declared.Terms.{Terms}
@@ -70,7 +70,7 @@ filled_item stage fill item piece = cond (ends_inside stage fill piece) (sets it
 
 -- The end call: 1 for a whole file, else 26; a stopped reader's own answer. It leaves the closed state.
 unfoldable pub ended : Reader → Reply
-ended r = record { answer = answer_of r.core (cond (is_tail r.core.stage) accepted too_few-bytes); state = closed_state }
+ended r = record { answer = answer_of r.core (cond (is_tail r.core.stage) accepted too_few_bytes); state = closed_state }
 
 -- The state before any byte, from the transcript's first state.
 unfoldable pub started : Params → Digest → Reader

@@ -49,12 +49,12 @@ module _ (p : Params) (context f numbers bytes output : List ℕ) where
         below = test_below f ok.below;
         numbers_fit = ok.numbers_fit;
         bytes_fit = ok.bytes_fit;
-        output-fits = ok.output-fits;
+        output_fits = ok.output_fits;
       }
 
   passing : Fits p f numbers bytes output → 0 ≡ tested p f (length numbers) (length bytes) (length output)
   passing h =
-      none_fails p f _ _ _ h.admitted h.count (below_test h.below) h.numbers_fit h.bytes_fit h.output-fits
+      none_fails p f _ _ _ h.admitted h.count (below_test h.below) h.numbers_fit h.bytes_fit h.output_fits
 
   pub returns : RoundTrip p context f numbers bytes output
   returns =
@@ -63,7 +63,7 @@ module _ (p : Params) (context f numbers bytes output : List ℕ) where
           λ e. fitting (number_of p context f numbers bytes output e),
           λ h. ap (λ w. w.answer) (succeeds p context f numbers bytes output (sym (passing h))),
         );
-        accepts-written = λ e cs once same.
+        accepts_written = λ e cs once same.
             let number : tested p f (length numbers) (length bytes) (length output) ≡ 0 = number_of p context f numbers bytes output e in
             let ok = fitting number in
             let file : List ℕ = built_file sha256 p context f in

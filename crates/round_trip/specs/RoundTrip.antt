@@ -18,12 +18,12 @@ pub record Fits (p : Params) (f numbers bytes output : List ℕ) : Type 0 where
   pub below : Below f
   pub numbers_fit : 2 * 2 ^ p.n ≤ length numbers
   pub bytes_fit : 64 * 2 ^ p.n ≤ length bytes
-  pub output-fits : file_length p ≤ length output
+  pub output_fits : file_length p ≤ length output
 
 pub record RoundTrip (p : Params) (context f numbers bytes output : List ℕ) : Type 0 where
   -- It writes exactly if nothing is wrong with what it is given.
   pub writes_exactly : ((written sha256 p context f numbers bytes output).answer ≡ answered open_so_far (file_length p)) ↔ Fits p f numbers bytes output
   -- What it has written is accepted: after any pieces that join to the first L bytes of the output, the end call answers accepted, at their number.
-  pub accepts-written : (written sha256 p context f numbers bytes output).answer ≡ answered open_so_far (file_length p)
+  pub accepts_written : (written sha256 p context f numbers bytes output).answer ≡ answered open_so_far (file_length p)
       → (cs : List Call) → ends_once cs ≡ true → joined cs ≡ take (file_length p) (written sha256 p context f numbers bytes output).output
       → last_given (reader sha256 (terms_of p context)) cs ≡ answered accepted (length (joined cs))

@@ -7,7 +7,7 @@ use mathlib.Core.Path.{◌≡◌, refl, ap, ap₂, sym, ◌∙◌, subst₂}
 use native.Mathlib.Omega.{arith}
 use lib.ListN.{length, drop, length-drop}
 use Rattle.answer.specs.declared.Answer.{Answer}
-use Rattle.answer.specs.Table.{answered, open_so_far, accepted, too_few-bytes}
+use Rattle.answer.specs.Table.{answered, open_so_far, accepted, too_few_bytes}
 use Rattle.params.specs.declared.Params.{Params}
 use Rattle.params.specs.declared.Terms.{Terms}
 use Rattle.params.specs.Parameters.{Valid, file_length}
@@ -83,7 +83,7 @@ module _ (hash : List ℕ → Digest) (p : Params) (context file : List ℕ) whe
   -- What the bytes come to: the first fault, in each of the three answers; or no fault, and all the bytes or fewer.
   pub data Ending (r : Result) : Type 0 where
     all_there : length file ≡ file_length p → end_answer r (length file) ≡ answered accepted (length file) → Ending r
-    fewer : length file < file_length p → end_answer r (length file) ≡ answered too_few-bytes (length file) → Ending r
+    fewer : length file < file_length p → end_answer r (length file) ≡ answered too_few_bytes (length file) → Ending r
 
   pub data Judged (r : Result) : Type 0 where
     stopped : {c d : ℕ} → Stopped c d → refusal_of r ≡ some (answered c d) → piece_answer r (length file) ≡ answered c d

@@ -2,7 +2,7 @@
 use Prim.Native.Nat.{ℕ, zero, suc, ◌<◌}
 use mathlib.Core.Path.{◌≡◌, refl, subst₂, sym}
 use native.Mathlib.Omega.{arith}
-use Rattle.answer.specs.Table.{not_below_modulus, not_the_folded-value, path_misses_root, misses_final_polynomial}
+use Rattle.answer.specs.Table.{not_below_modulus, not_the_folded_value, path_misses_root, misses_final_polynomial}
 
 -- Numbers and places.
 abbrev pub Faults : Type 1
@@ -53,7 +53,7 @@ some_join (right h) = record { index = suc h.index; below = omega (arith, h.belo
 pub data Before (c d c' d' : ℕ) : Type 0 where
   same : c ≡ c' → d ≡ d' → Before c d c' d'
   earlier : d < d' → Before c d c' d'
-  number_first : c ≡ not_below_modulus → c' ≡ not_the_folded-value → d ≡ d' → Before c d c' d'
+  number_first : c ≡ not_below_modulus → c' ≡ not_the_folded_value → d ≡ d' → Before c d c' d'
   path_first : c ≡ path_misses_root → c' ≡ misses_final_polynomial → d ≡ d' → Before c d c' d'
 
 -- It is the first fault.

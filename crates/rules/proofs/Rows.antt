@@ -3,13 +3,13 @@ use Prim.Native.Nat.{ℕ, zero, suc, ◌+◌, ◌<◌}
 use mathlib.Core.List.{List}
 use mathlib.Core.Path.{◌≡◌, refl, ap, sym, ◌∙◌, subst}
 use native.Mathlib.Omega.{arith}
-use Rattle.answer.specs.Table.{not_the_folded-value, misses_final_polynomial, byte_after_the_end}
+use Rattle.answer.specs.Table.{not_the_folded_value, misses_final_polynomial, byte_after_the_end}
 use Rattle.params.specs.declared.Params.{Params}
 use Rattle.params.specs.Parameters.{values_per_leaf, opening_offset, value_offset, file_length}
 use Rattle.message.specs.Message.{Digest}
 use Rattle.fri.specs.Encoding.{Proof}
 use Rattle.fri.specs.Accepted.{FoldsTo, next_value}
-use Rattle.rules.specs.Rules.{proof_in, Rule, count_1, count_2, count_3, count_4, section_1, coefficient, value, folded-value, path, final_value, after_the_end}
+use Rattle.rules.specs.Rules.{proof_in, Rule, count_1, count_2, count_3, count_4, section_1, coefficient, value, folded_value, path, final_value, after_the_end}
 use Rattle.rules.proofs.Faults.{Faults, One, Either, left, right, one, from_one}
 use Rattle.rules.proofs.Offsets.{offset_next}
 use Rattle.rules.proofs.Walked.{value_here, final_at, Missed, LayerFaults, QueryFaults}
@@ -38,7 +38,7 @@ module _ (hash : List ℕ → Digest) (p : Params) (context file : List ℕ) whe
   rule_fault (coefficient i b h) = left (right (right (right (right (left (record { index = i; below = omega arith; fault = one h }))))))
   rule_fault (count_4 h) = left (right (right (right (right (right (left (one h)))))))
   rule_fault (value i j r b l e h) = in_layer i j b l (left (left (record { index = r; below = e; fault = one h })))
-  rule_fault (folded-value i j b l h) = in_layer i (suc j) b l (left (right (one (record { layer = j; before = refl; misses = h }))))
+  rule_fault (folded_value i j b l h) = in_layer i (suc j) b l (left (right (one (record { layer = j; before = refl; misses = h }))))
   rule_fault (path i j b l h) = in_layer i j b l (right (one h))
   rule_fault (final_value i j b e h) =
       in_query i b
@@ -54,12 +54,12 @@ module _ (hash : List ℕ → Digest) (p : Params) (context file : List ℕ) whe
   Rules = Rule hash p context file
 
   folded-rule : (i j : ℕ) → i < p.q → j < p.k
-      → Missed hash p context file i j (value_here hash p context file i j) → Rules not_the_folded-value (value_offset p i j (values_per_leaf p))
+      → Missed hash p context file i j (value_here hash p context file i j) → Rules not_the_folded_value (value_offset p i j (values_per_leaf p))
   unfolding next_value
   folded-rule i zero b l m = absurd (omega (arith, m.before))
   folded-rule i (suc j) b l m =
       let same : m.layer ≡ j = omega (arith, m.before) in
-      folded-value i j b l (subst (λ t. ¬ FoldsTo hash p context proof i t (next_value hash p context proof i j)) same m.misses)
+      folded_value i j b l (subst (λ t. ¬ FoldsTo hash p context proof i t (next_value hash p context proof i j)) same m.misses)
 
   final-rule : (i : ℕ) → i < p.q → Missed hash p context file i p.k (final_at hash p context file i p.k)
       → Rules misses_final_polynomial (opening_offset p i p.k)

@@ -8,7 +8,7 @@ use lib.Dec.{ltb}
 use borrow.Author.Tests.{ltb-true, ltb-false}
 use lib.ListN.{length, get_or, take, drop, drop_of_length-le}
 use lib.Seq.{drop-cons, take-suc}
-use Rattle.answer.specs.Table.{not_below_modulus, not_the_folded-value, path_misses_root, misses_final_polynomial}
+use Rattle.answer.specs.Table.{not_below_modulus, not_the_folded_value, path_misses_root, misses_final_polynomial}
 use Rattle.params.specs.declared.Params.{Params}
 use Rattle.params.specs.Parameters.{Valid, header, depth, values_per_leaf, height, leaf_count, opening_offset, value_offset}
 use Rattle.params.proofs.LeafLaws.{leaf-next}
@@ -82,13 +82,13 @@ module _ (hash : List ℕ → Digest) (p : Params) (context file : List ℕ) whe
   index_leaf i zero = refl
   index_leaf i (suc j) = leaf-next p j (drawn_leaf hash p context proof i)
 
-  root-count : length proof.roots ≡ p.k
+  root_count : length proof.roots ≡ p.k
   unfolding proof_in
-  root-count = tabulate-length p.k _
+  root_count = tabulate-length p.k _
 
   state-next : (j : ℕ) → j < p.k → absorb hash (state j) (root_at proof j) ≡ state (suc j)
   state-next j h =
-      sym (ap (absorbed hash (start hash (header p) context)) (take-suc proof.roots j [] (omega (arith, root-count)))
+      sym (ap (absorbed hash (start hash (header p) context)) (take-suc proof.roots j [] (omega (arith, root_count)))
       ∙ absorbed_snoc hash (start hash (header p) context) (take j proof.roots) (root_at proof j))
 
   -- The value at the index in layer j, the final polynomial's after the last layer, and the root that the path gives.
@@ -110,14 +110,14 @@ module _ (hash : List ℕ → Digest) (p : Params) (context file : List ℕ) whe
 
   abbrev pub LayerFaults : ℕ → ℕ → Faults
   LayerFaults i j =
-      Either (Either (Some (ValueFaults i j) (values_per_leaf p)) (One (Missed i j (value_here i j)) not_the_folded-value (leaf_end i j)))
+      Either (Either (Some (ValueFaults i j) (values_per_leaf p)) (One (Missed i j (value_here i j)) not_the_folded_value (leaf_end i j)))
       (One (¬ (climbed i j ≡ root_at proof j)) path_misses_root (opening_end p i j))
 
   -- A value that is no number goes before one that is not the folded one.
-  value_order : {c d : ℕ} (i j : ℕ) → Some (ValueFaults i j) (values_per_leaf p) c d → Before c d not_the_folded-value (leaf_end i j)
+  value_order : {c d : ℕ} (i j : ℕ) → Some (ValueFaults i j) (values_per_leaf p) c d → Before c d not_the_folded_value (leaf_end i j)
   value_order {c} {d} i j f = by (ltb d (leaf_end i j)) refl
     where
-      by : (b : Bool) → ltb d (leaf_end i j) ≡ b → Before c d not_the_folded-value (leaf_end i j)
+      by : (b : Bool) → ltb d (leaf_end i j) ≡ b → Before c d not_the_folded_value (leaf_end i j)
       by true t = earlier (ltb-true _ _ t)
       by false t = number_first f.fault.by_number refl (omega (arith, f.below, f.fault.by_place, ltb-false d (leaf_end i j) t))
 
@@ -129,11 +129,11 @@ module _ (hash : List ℕ → Digest) (p : Params) (context file : List ℕ) whe
       → Through file (LayerFaults i j) (opening_offset p i j) (opening_offset p i (suc j)) (walked i j k) (walked i (suc j) k)
   unfolding walk ◌>>=◌ ◌>>◌ opening_in opened_leaf point_at challenge_at opening_end
   layer-step v i j k h l =
-      let long : j < length proof.roots = omega (arith, root-count) in
+      let long : j < length proof.roots = omega (arith, root_count) in
       let there : opening_in p file i j ≡ opened i j = sym (opening_there i j h l) in
       rw (offset_next p i j, drop-cons proof.roots j [] long, index_leaf i j, state-next j l)
       (then
-      (tested _ _ (fits (meets i j) (value_here i j)) not_the_folded-value
+      (tested _ _ (fits (meets i j) (value_here i j)) not_the_folded_value
       (omega arith) (met i j _) (missed i j _) (λ c d f. value_order i j f)
       (numbers-taken (values_per_leaf p) (opening_offset p i j) (leaf_end i j) (opened i j).values _ refl (ap (λ u. u.values) there)))
       (only
@@ -162,7 +162,7 @@ module _ (hash : List ℕ → Digest) (p : Params) (context file : List ℕ) whe
   unfolding walk absorbed opening_end
   query-step v i k h =
       tested k _ _ misses_final_polynomial far (met i p.k _) (missed i p.k _) order
-      (rw (drop_of_length-le proof.roots {i = p.k} (omega (arith, root-count)))
+      (rw (drop_of_length-le proof.roots {i = p.k} (omega (arith, root_count)))
       at (in_a_row p.k (LayerFaults i) (opening_offset p i) (λ j. walked i j k) (λ j l. layer-step v i j k h l)))
     where
       far : opening_offset p i 0 < opening_offset p i p.k

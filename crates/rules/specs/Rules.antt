@@ -1,7 +1,7 @@
 -- The table of refusals, row by row (document 01, "When the reader says no"): each number with its rule and its place, by offsets in the bytes.
 -- Nothing here goes through the file in order: a rule looks at the bytes where the layout has them, whatever stands before.
 use Rattle.std.specs.Prelude.{ℕ, suc, ◌+◌, ◌≤◌, ◌<◌, List, ◌≡◌, length, get_or}
-use Rattle.answer.specs.Table.{open_so_far, accepted, count_differs, parameters_differ, not_below_modulus, not_the_folded-value, path_misses_root, misses_final_polynomial, too_few-bytes, byte_after_the_end}
+use Rattle.answer.specs.Table.{open_so_far, accepted, count_differs, parameters_differ, not_below_modulus, not_the_folded_value, path_misses_root, misses_final_polynomial, too_few_bytes, byte_after_the_end}
 use Rattle.field.specs.Modular.{p as modulus}
 use Rattle.params.specs.declared.Params.{Params}
 use Rattle.params.specs.declared.Terms.{Terms}
@@ -54,8 +54,8 @@ module _ (hash : List ℕ → Digest) (p : Params) (context file : List ℕ) whe
     value : (i j r : ℕ) → i < p.q → j < p.k → r < values_per_leaf p → ¬ (get_or (opening_at proof i j).values r 0 < modulus)
         → Rule not_below_modulus (value_offset p i j r + 4)
     -- 24: the opened value of layer j + 1 is not the one folded from layer j; at the leaf's last value's last byte
-    folded-value : (i j : ℕ) → i < p.q → suc j < p.k → ¬ FoldsTo hash p context proof i j (next_value hash p context proof i j)
-        → Rule not_the_folded-value (value_offset p i (suc j) (values_per_leaf p))
+    folded_value : (i j : ℕ) → i < p.q → suc j < p.k → ¬ FoldsTo hash p context proof i j (next_value hash p context proof i j)
+        → Rule not_the_folded_value (value_offset p i (suc j) (values_per_leaf p))
     -- 23: the path misses the root; at the last sibling's last byte
     path : (i j : ℕ) → i < p.q → j < p.k
         → ¬ (climb hash (opened_leaf hash p context proof i j) (leaf_at hash p context proof i j) (opening_at proof i j).siblings ≡ root_at proof j)
@@ -73,7 +73,7 @@ module _ (hash : List ℕ → Digest) (p : Params) (context file : List ℕ) whe
     pub there : d ≤ length file
     pub rule : Rule c d
     pub earliest : (c' d' : ℕ) → d' < d → ¬ Rule c' d'
-    pub number_first : c ≡ not_the_folded-value → ¬ Rule not_below_modulus d
+    pub number_first : c ≡ not_the_folded_value → ¬ Rule not_below_modulus d
     pub path_first : c ≡ misses_final_polynomial → ¬ Rule path_misses_root d
 
   -- No rule holds at any of the bytes.
@@ -91,4 +91,4 @@ pub data VerdictRow (hash : List ℕ → Digest) (a : Terms) (file : List ℕ) :
   by_rule : {c d : ℕ} → Admitted a → Refused hash a.params a.context file c d → VerdictRow hash a file c d
   whole : Admitted a → NoFault hash a.params a.context file → length file ≡ file_length a.params → VerdictRow hash a file accepted (length file)
   too_few : Admitted a → NoFault hash a.params a.context file → length file < file_length a.params
-      → VerdictRow hash a file too_few-bytes (length file)
+      → VerdictRow hash a file too_few_bytes (length file)

@@ -27,7 +27,7 @@ pub record Passed (p : Params) (f : List ℕ) (numbers bytes output : ℕ) : Typ
   pub below : all_below f ≡ true
   pub numbers_fit : 2 * 2 ^ p.n ≤ numbers
   pub bytes_fit : 64 * 2 ^ p.n ≤ bytes
-  pub output-fits : file_length p ≤ output
+  pub output_fits : file_length p ≤ output
 
 pub passed : (p : Params) (f : List ℕ) (numbers bytes output : ℕ) → tested p f numbers bytes output ≡ 0 → Passed p f numbers bytes output
 unfolding tests
@@ -52,7 +52,7 @@ passed p f numbers bytes output e =
           below = e₃;
           numbers_fit = leb-true _ _ e₄;
           bytes_fit = leb-true _ _ e₅;
-          output-fits = leb-true _ _ e₆;
+          output_fits = leb-true _ _ e₆;
         }
 
 pub passed_by : {r : ℕ} (p : Params) (f : List ℕ) (numbers bytes output : ℕ) → r ≡ tested p f numbers bytes output → r ≡ 0 → Passed p f numbers bytes output

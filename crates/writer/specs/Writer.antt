@@ -1,7 +1,7 @@
 -- What the writer of proofs answers and leaves (request 2026-02): its tests in their order, and the file that document 01 builds.
 use Rattle.std.specs.Prelude.{ℕ, ◌*◌, ◌^◌, ◌-◌, Bool, true, ◌&&◌, cond, List, [], ◌∷◌, ◌++◌, eqb, leb, ltb, length, drop}
 use Rattle.answer.specs.declared.Answer.{Answer}
-use Rattle.answer.specs.Table.{answered, open_so_far, not_below_modulus, wrong_coefficient-count, scratch_too_short, output_too_short}
+use Rattle.answer.specs.Table.{answered, open_so_far, not_below_modulus, wrong_coefficient_count, scratch_too_short, output_too_short}
 use Rattle.field.specs.Modular.{p as modulus}
 use Rattle.params.specs.declared.Params.{Params}
 use Rattle.params.specs.Parameters.{file_length}
@@ -27,7 +27,7 @@ tested p f numbers bytes output =
     output_too_short)
     scratch_too_short)
     not_below_modulus)
-    wrong_coefficient-count)
+    wrong_coefficient_count)
     (admission p)
 
 -- What a call answers, and what it leaves in the output and in the scratch.

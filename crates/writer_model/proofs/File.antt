@@ -56,10 +56,10 @@ module _
   -- The roots, and the final coefficients, in bytes.
   roots-length : HasLayout p proof → length (joined proof.roots) ≡ 32 * p.k
   roots-length layout =
-      joined_length (sized 32 _ (λ j h. (layout.root_digest j (omega (arith, layout.root-count))).size)) ∙ ap (λ n. 32 * n) layout.root-count
+      joined_length (sized 32 _ (λ j h. (layout.root_digest j (omega (arith, layout.root_count))).size)) ∙ ap (λ n. 32 * n) layout.root_count
 
   final-length : HasLayout p proof → length (words proof.final) ≡ 4 * final_count p
-  final-length layout = words-length _ ∙ ap (λ n. 4 * n) layout.final-count
+  final-length layout = words-length _ ∙ ap (λ n. 4 * n) layout.final_count_lem
 
   -- The file from the start on: all parts, and no byte more.
   pub file_built : (file : List ℕ) → Valid p → length f ≡ 2 ^ (p.n - p.b) → length file ≡ file_length p → (w : Buffers)
