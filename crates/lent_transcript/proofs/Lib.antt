@@ -1,1 +1,3 @@
--- No lemmas: the check finds the proofs.
+-- What the walks share.
+pub mod Stored
+pub mod Walks
