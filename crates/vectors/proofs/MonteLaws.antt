@@ -7,9 +7,11 @@ use native.Mathlib.Numerals.{add-one}
 use native.Mathlib.Omega.{arith}
 use lib.ListN.{length, get_or, length-append, get_or-append}
 use lib.Seq.{get_or-append-add, ext_get_or}
+use Rattle.sha256.specs.Words.{build}
 use Rattle.sha256.specs.Sha256.{sha256}
 use Rattle.sha256.specs.Hash.{hashed}
 use Rattle.sha256.specs.declared.Hashed.{Hashed}
+use Rattle.sha256.proofs.Build.{Filled, filled_all, length-build, get_d_build}
 use Rattle.sha256.proofs.HashLaws.{hashed-short}
 use Rattle.vectors.specs.Monte.{digest_at, checkpoint}
 
@@ -38,6 +40,16 @@ in_third a b c i p q from =
 -- two lists of one length with the same elements are one
 pub same_list : (l m : List ℕ) (n : ℕ) → length l ≡ n → length m ≡ n → ((k : ℕ) → k < n → get_or l k 0 ≡ get_or m k 0) → l ≡ m
 same_list l m n e f same = ext_get_or 0 l m (e ∙ sym f) (λ k h. same k (omega arith))
+
+-- a list is what its elements build
+build_get_or : (l : List ℕ) → build (λ j. get_or l j 0) (length l) ≡ l
+build_get_or l =
+    ext_get_or 0 (build (λ j. get_or l j 0) (length l)) l (length-build _ (length l))
+    (λ i h. get_d_build (λ j. get_or l j 0) (length l) i (omega (arith, length-build (λ j. get_or l j 0) (length l))))
+
+-- an array that is filled with a list's elements to its end is the list
+pub filled_list : {l m : List ℕ} {size i : ℕ} → Filled (λ j. get_or l j 0) size i m → length l ≡ size → size ≤ i → m ≡ l
+filled_list {l} {m} {size} h e le = filled_all h le ∙ ap (build (λ j. get_or l j 0)) (sym e) ∙ build_get_or l
 
 pub length_three : (a b c : List ℕ) → length a ≡ 32 → length b ≡ 32 → length c ≡ 32 → length (a ++ (b ++ c)) ≡ 96
 length_three a b c p q r = simp (length-append, p, q, r)
