@@ -1,18 +1,16 @@
 -- A reader whose states stand for another's, call by call, meets the demands that the other meets. Assumes nothing.
-use Prim.Native.Nat.{ℕ, ◌≤◌, ◌<◌}
-use mathlib.Core.Bool.{true, false}
+use Prim.Native.Nat.{ℕ, ◌≤◌}
 use mathlib.Core.List.{List, [], ◌∷◌}
 use mathlib.Core.Option.{Option}
-use mathlib.Core.Logic.{◌↔◌}
 use mathlib.Core.Path.{◌≡◌, refl, sym, ap, subst, ◌∙◌}
-use lib.ListN.{length, take, get_or}
+use lib.ListN.{get_or}
 use Rattle.answer.specs.declared.Answer.{Answer}
 use Rattle.answer.specs.Table.{answered, open_so_far, accepted}
 use Rattle.params.specs.declared.Terms.{Terms}
 use Rattle.fri.specs.Size.{known_length}
-use Rattle.calls.specs.Calls.{Call, piece, end, has_end, ends_once, state_after, answers, next, state_left, given, nth, last_or, last_given, Refuses, Reader as Calls}
+use Rattle.calls.specs.Calls.{Call, piece, end, state_after, answers, next, state_left, given, nth, last_or, last_given, Refuses, Reader as Calls}
 use Rattle.calls.specs.Plain.{Table}
-use Rattle.calls.specs.Demand3.{Demand3, StateRule, PrefixRule, SizeRule, Agree, InPieces, to_piece}
+use Rattle.calls.specs.Demand3.{Demand3, StateRule, PrefixRule, SizeRule, to_piece}
 use Rattle.reader_model.specs.declared.Tables.{Tables}
 use Rattle.demands.specs.Demands.{States, WhenAdmitted, WhenRefused, Demands}
 

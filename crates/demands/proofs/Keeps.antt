@@ -1,8 +1,8 @@
 -- The byte that decides a refusal changes no table. Assumes nothing.
 use Prim.Native.Nat.{ℕ, ◌+◌}
-use mathlib.Core.Bool.{Bool, true, false, cond, false≢true}
-use mathlib.Core.List.{List, [], ◌∷◌}
-use mathlib.Core.Path.{◌≡◌, refl, sym, ap, ◌∙◌}
+use mathlib.Core.Bool.{Bool, true, false, false≢true}
+use mathlib.Core.List.{List}
+use mathlib.Core.Path.{◌≡◌, refl, ap}
 use lib.Dec.{ltb}
 use Rattle.field.specs.Modular.{p as modulus}
 use Rattle.message.specs.Message.{Digest}

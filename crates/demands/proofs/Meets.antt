@@ -16,15 +16,14 @@ use Rattle.params.proofs.AdmissionLaws.{admitted, refused, admitted-valid, refus
 use Rattle.fri.specs.Judge.{verdict}
 use Rattle.rules.proofs.Exactly.{piece_exactly, verdict_exactly}
 use Rattle.calls.specs.Calls.{Call, has_end, state_left, given, nth, Reader as Calls}
-use Rattle.calls.specs.Plain.{Plain, holds, plain}
-use Rattle.calls.specs.Demand3.{Demand3}
+use Rattle.calls.specs.Plain.{plain}
 use Rattle.reader_model.specs.declared.Reader.{Reader}
 use Rattle.reader_model.specs.declared.Core.{Core}
-use Rattle.reader_model.specs.State.{stopped, closed_state}
+use Rattle.reader_model.specs.State.{stopped}
 use Rattle.reader_model.specs.Model.{opened, pieced, fed, ended, is_stopped}
 use Rattle.reader_model.specs.Claim.{table, reader, Opened, Refused}
 use Rattle.reader_model.proofs.Theorem.{claim}
-use Rattle.lent_reader.specs.Held.{Held, held_of, reader_of, outcome_of, boundary}
+use Rattle.lent_reader.specs.Held.{held_of, outcome_of, boundary}
 use Rattle.lent_reader.proofs.Through.{round_trip}
 use Rattle.built.proofs.Built.{built_accepted}
 use Rattle.demands.specs.Demands.{plain_table, by_value_states, lent_states, Closed, after_end_lem, after_refusal, WhenAdmitted, WhenRefused, Demands, Readers}

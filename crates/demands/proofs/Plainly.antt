@@ -1,7 +1,7 @@
 -- The plain reader in document 01's words: its table is the rows, a whole file has as many bytes as L, and only a closed reader answers 11.
 -- Assumes nothing.
 use Prim.Native.Nat.{ℕ, zero, suc, ◌≤◌, ◌<◌}
-use mathlib.Core.Bool.{Bool, true, false, cond, not, false≢true}
+use mathlib.Core.Bool.{Bool, true, false, cond, false≢true}
 use mathlib.Core.List.{List, [], ◌∷◌, ◌++◌}
 use mathlib.Core.Logic.{◌↔◌}
 use mathlib.Core.Option
@@ -20,11 +20,11 @@ use Rattle.params.specs.Parameters.{file_length}
 use Rattle.params.specs.Admission.{Admitted}
 use Rattle.params.proofs.AdmissionLaws.{admitted-valid}
 use Rattle.fri.specs.Process.{Process, run}
-use Rattle.fri.specs.Judge.{judgement, verdict}
+use Rattle.fri.specs.Judge.{judgement}
 use Rattle.rules.specs.Rules.{Rule, count_1, count_2, count_3, count_4, section_1, coefficient, value, folded_value, path, final_value, after_the_end, Refused, NoFault, PieceRow, VerdictRow, so_far, not_admitted, whole, too_few}
 use Rattle.rules.proofs.Exactly.{refused_exactly, piece_exactly, verdict_exactly}
 use Rattle.calls.specs.Calls.{Call, piece, end, has_end, answers}
-use Rattle.calls.specs.Plain.{Table, Plain, holds, or_else, decided_by, earliest, decide, after_piece, after_end, plain}
+use Rattle.calls.specs.Plain.{Table, holds, or_else, decided_by, earliest, decide, after_piece, after_end, plain}
 use Rattle.calls.specs.Judged.{is_whole}
 use Rattle.calls.proofs.Judged.{decide_judged, plain-piece}
 use Rattle.calls.proofs.Within.{judgement_begins, verdict-plain}

@@ -1,5 +1,4 @@
 -- `job::begin` meets its contract.
-use borrow.Author.Rules.{rules}
 use Rattle.job.proofs.Laws.{begins}
 use Rattle.job.proofs.begin.Goals as goal
 

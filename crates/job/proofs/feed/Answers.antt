@@ -1,11 +1,4 @@
 -- `job::feed` meets its contract. The loop's invariant: the bytes before i were taken.
-use Prim.Native.Nat.{◌-◌, ◌≤◌}
-use mathlib.Core.Path.{◌≡◌, refl}
-use mathlib.Core.List.{foldl}
-use native.Mathlib.Omega.{arith}
-use lib.ListN.{length, take}
-use Rattle.calls.proofs.Folds.{fold_turn, fold_done}
-use Rattle.job.specs.Chunks.{taken}
 use borrow.Author.Rules.{rules}
 use Rattle.job.proofs.Laws.{chunk_rest, chunk_done}
 use Rattle.job.proofs.feed.Goals as goal

@@ -1,12 +1,8 @@
 use Prim.Native.Nat.{◌-◌, ◌≤◌}
-use mathlib.Core.Path.{◌≡◌, refl}
+use mathlib.Core.Path.{◌≡◌}
 use mathlib.Core.List.{foldl}
-use native.Mathlib.Omega.{arith}
 use lib.ListN.{length, take}
-use Rattle.calls.proofs.Folds.{fold_turn, fold_done}
 use Rattle.job.specs.Chunks.{taken}
-use borrow.Author.Rules.{rules}
-use Rattle.job.proofs.Laws.{chunk_rest, chunk_done}
 use Rattle.job.proofs.feed.Given as goal
 
 abbrev pub invariant-loop-i : goal.invariant-loop-i

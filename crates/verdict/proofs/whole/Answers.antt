@@ -1,5 +1,4 @@
 -- `verdict::whole` meets its contract: open, one piece and the end call give the verdict.
-use borrow.Author.Rules.{rules}
 use Rattle.verdict.proofs.Laws.{fed-whole, admitted-outcome, refused-outcome}
 use Rattle.verdict.proofs.whole.Goals as goal
 

@@ -1,14 +1,9 @@
 -- `verdict::pieces::feed_in_pieces` meets its contract. The loop's invariant: the reader that is held is the one after the bytes up to `at`.
-use mathlib.Core.Path.{◌≡◌, sym}
-use Prim.Native.Nat.{◌-◌, ◌≤◌}
+use mathlib.Core.Path.{sym}
 use native.Mathlib.Omega.{arith}
-use borrow.Author.Rules.{rules}
-use lib.ListN.{length, take}
 use Rattle.sha256.specs.Sha256.{sha256}
-use Rattle.reader_model.specs.Model.{fed}
 use Rattle.reader_model.proofs.Theorem.{fed_none}
-use Rattle.lent_reader.specs.Held.{held, reader_of}
-use Rattle.verdict.proofs.Laws.{fed-more, fed_all}
+use Rattle.verdict.proofs.Laws.{fed-more}
 use Rattle.verdict.proofs.pieces.feed_in_pieces.Goals as goal
 
 pub loop-at-init : goal.loop-at-init

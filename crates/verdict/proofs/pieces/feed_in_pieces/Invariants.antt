@@ -1,13 +1,9 @@
-use mathlib.Core.Path.{◌≡◌, sym}
+use mathlib.Core.Path.{◌≡◌}
 use Prim.Native.Nat.{◌-◌, ◌≤◌}
-use native.Mathlib.Omega.{arith}
-use borrow.Author.Rules.{rules}
 use lib.ListN.{length, take}
 use Rattle.sha256.specs.Sha256.{sha256}
 use Rattle.reader_model.specs.Model.{fed}
-use Rattle.reader_model.proofs.Theorem.{fed_none}
 use Rattle.lent_reader.specs.Held.{held, reader_of}
-use Rattle.verdict.proofs.Laws.{fed-more, fed_all}
 use Rattle.verdict.proofs.pieces.feed_in_pieces.Given as goal
 
 abbrev pub invariant-loop-at : goal.invariant-loop-at

@@ -1,5 +1,4 @@
 -- `verdict::pieces::judged` meets its contract: however the proof is cut, the end call gives the verdict.
-use borrow.Author.Rules.{rules}
 use Rattle.verdict.proofs.Laws.{admitted-outcome, refused-outcome}
 use Rattle.verdict.proofs.pieces.judged.Goals as goal
 
