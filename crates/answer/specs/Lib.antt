@@ -1,2 +1,3 @@
--- Answers, and the table of their numbers.
+-- Answers, the table of their numbers, and the refusals among them.
+pub mod Refusals
 pub mod Table

@@ -3,19 +3,60 @@
 #![tactic(auto)]
 
 ghost use Rattle.std.specs.Prelude.{◌≡◌};
-ghost use Rattle.answer.specs.Table.{table};
+ghost use Rattle.answer.specs.Table.{answered, open_so_far, accepted, table};
+ghost use Rattle.answer.specs.Refusals.{number_of};
 
 #[repr(C)]
-#[derive(Clone, Copy)]
+#[derive(Clone, Copy, Debug, PartialEq, Eq)]
 pub struct Answer {
     pub number: u8,
     pub place: u32,
 }
 
-// The table's numbers by name. `numbers`, whose contract pins each, keeps them from drifting from the table.
+// The number of a reader that is open with no fault, and of a call that succeeds.
 pub const OPEN: u8 = 0;
 
 pub const ACCEPTED: u8 = 1;
+
+// Why a call refuses: the table's numbers by name. `numbers`, whose contract pins each, keeps them from drifting from the table.
+#[derive(Clone, Copy, Debug, PartialEq, Eq)]
+pub enum Refusal {
+    ParametersNotValid = 10,
+    Closed = 11,
+    JobTooShort = 12,
+    MessageTooLong = 14,
+    InverseOfZero = 15,
+    NoSuchOpening = 16,
+    CountDiffers = 20,
+    ParametersDiffer = 21,
+    NotBelowModulus = 22,
+    PathMissesRoot = 23,
+    NotTheFoldedValue = 24,
+    MissesFinalPolynomial = 25,
+    TooFewBytes = 26,
+    ByteAfterTheEnd = 27,
+    WrongCoefficientCount = 30,
+    ScratchTooShort = 31,
+    OutputTooShort = 32,
+}
+
+impl Refusal {
+    pub fn number(self) -> u8
+        ensures { result ≡ number_of self }
+    {
+        self as u8
+    }
+
+    // The answer of a refusal at a place.
+    pub fn at(self, place: u32) -> Answer
+        ensures { result ≡ answered (number_of self) place }
+    {
+        Answer {
+            number: self.number(),
+            place,
+        }
+    }
+}
 
 pub const PARAMETERS_NOT_VALID: u8 = 10;
 
@@ -26,8 +67,6 @@ pub const JOB_TOO_SHORT: u8 = 12;
 pub const MESSAGE_TOO_LONG: u8 = 14;
 
 pub const INVERSE_OF_ZERO: u8 = 15;
-
-pub const NO_SUCH_OPENING: u8 = 16;
 
 pub const COUNT_DIFFERS: u8 = 20;
 
@@ -58,22 +97,22 @@ pub fn numbers() -> [u8; 19]
     [
         OPEN,
         ACCEPTED,
-        PARAMETERS_NOT_VALID,
-        CLOSED,
-        JOB_TOO_SHORT,
-        MESSAGE_TOO_LONG,
-        INVERSE_OF_ZERO,
-        NO_SUCH_OPENING,
-        COUNT_DIFFERS,
-        PARAMETERS_DIFFER,
-        NOT_BELOW_MODULUS,
-        PATH_MISSES_ROOT,
-        NOT_THE_FOLDED_VALUE,
-        MISSES_FINAL_POLYNOMIAL,
-        TOO_FEW_BYTES,
-        BYTE_AFTER_THE_END,
-        WRONG_COEFFICIENT_COUNT,
-        SCRATCH_TOO_SHORT,
-        OUTPUT_TOO_SHORT,
+        Refusal::ParametersNotValid.number(),
+        Refusal::Closed.number(),
+        Refusal::JobTooShort.number(),
+        Refusal::MessageTooLong.number(),
+        Refusal::InverseOfZero.number(),
+        Refusal::NoSuchOpening.number(),
+        Refusal::CountDiffers.number(),
+        Refusal::ParametersDiffer.number(),
+        Refusal::NotBelowModulus.number(),
+        Refusal::PathMissesRoot.number(),
+        Refusal::NotTheFoldedValue.number(),
+        Refusal::MissesFinalPolynomial.number(),
+        Refusal::TooFewBytes.number(),
+        Refusal::ByteAfterTheEnd.number(),
+        Refusal::WrongCoefficientCount.number(),
+        Refusal::ScratchTooShort.number(),
+        Refusal::OutputTooShort.number(),
     ]
 }
