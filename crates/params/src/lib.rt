@@ -1,9 +1,13 @@
 // The parameters of a proof (document 01, "Parameters and domain"), by value. A later parameter byte is a field more here; no signature changes.
 #![tactic(auto)]
 
-ghost use Rattle.std.specs.Prelude.{◌≡◌, get_or};
+ghost use Rattle.std.specs.Prelude.{◌≡◌, get_or, IfOk, IfErr};
+ghost use Rattle.answer.specs.Table.{open_so_far};
+ghost use Rattle.answer.specs.Refusals.{number_of};
 ghost use Rattle.params.specs.Parameters as spec;
 ghost use Rattle.params.specs.Admission as admission;
+
+use answer::Refusal;
 
 #[repr(C)]
 #[derive(Clone, Copy)]
@@ -12,6 +16,13 @@ pub struct Params {
     pub b: u8,
     pub k: u8,
     pub q: u8,
+}
+
+// Parameters that are valid, which `admitted` has found.
+#[derive(Clone, Copy)]
+pub struct ValidParams {
+    pub params: Params,
+    pub ghost valid: { spec.Valid params },
 }
 
 // What an opening is asked for: a proof under these parameters, bound to this context. A later argument is a field more here.
@@ -68,14 +79,25 @@ pub fn is_valid(p: Params) -> bool
         & (in_range(1, p.b, 8) & (in_range(1, p.k, 12) & (in_range(1, p.q, 64) & fits)))
 }
 
+// A caller's parameters, where they are admitted.
+pub fn admitted(p: Params) -> Result<ValidParams, Refusal>
+    ensures ok { IfOk result (λ v. (v.params ≡ p) × (admission.admission p ≡ open_so_far)) }
+    ensures err { IfErr result (λ r. number_of r ≡ admission.admission p) }
+{
+    if is_valid(p) {
+        Ok(ValidParams { params: p })
+    } else {
+        Err(Refusal::ParametersNotValid)
+    }
+}
+
 // Whether a caller's arguments are admitted: the refusal's number, or 0.
 pub fn admission(p: Params) -> u8
     ensures { result ≡ admission.admission p }
 {
-    if is_valid(p) {
-        answer::OPEN
-    } else {
-        answer::PARAMETERS_NOT_VALID
+    match admitted(p) {
+        Ok(_) => answer::OPEN,
+        Err(refusal) => refusal.number(),
     }
 }
 
