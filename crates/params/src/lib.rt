@@ -1,9 +1,8 @@
 // The parameters of a proof (document 01, "Parameters and domain"), by value. A later parameter byte is a field more here; no signature changes.
 #![tactic(auto)]
 
-ghost use Rattle.std.specs.Prelude.{◌≡◌, get_or, IfOk, IfErr};
-ghost use Rattle.answer.specs.Table.{open_so_far};
-ghost use Rattle.answer.specs.Refusals.{number_of};
+ghost use Rattle.std.specs.Prelude.{◌≡◌, get_or, IfOk};
+ghost use Rattle.answer.specs.Refusals.{number_in};
 ghost use Rattle.params.specs.Parameters as spec;
 ghost use Rattle.params.specs.Admission as admission;
 
@@ -81,8 +80,8 @@ pub fn is_valid(p: Params) -> bool
 
 // A caller's parameters, where they are admitted.
 pub fn admitted(p: Params) -> Result<ValidParams, Refusal>
-    ensures ok { IfOk result (λ v. (v.params ≡ p) × (admission.admission p ≡ open_so_far)) }
-    ensures err { IfErr result (λ r. number_of r ≡ admission.admission p) }
+    ensures number { number_in result ≡ admission.admission p }
+    ensures ok { IfOk result (λ v. v.params ≡ p) }
 {
     if is_valid(p) {
         Ok(ValidParams { params: p })
