@@ -7,7 +7,7 @@ prints signature and contract, and checks:
   tight     it has an `ensures` whose facts are equations. On the left stands the result, a field of it, or what is left in something lent by
             `&mut`; or a record assembled of these alone. On the right stands a term in which neither the result nor anything left behind
             occurs, and no sign of logic. Together they pin the whole result and everything lent; of a reference in the result, what it points
-            at and where;
+            at and where; of a `Result` with a refusal, the number (`number_in result`) and, by `IfOk`, the value;
   meaning   every symbol of the contract comes from the library, every other name from a `specs` file or the call's own parameters. No name of
             the library's is taken for anything else, neither by a definition of a specs file, public or private, nor by a renaming import, and
             specs files import from the library and from specs files alone.
@@ -38,6 +38,9 @@ TERMS = set("+ - * / % ^ ∷ [] ++".split())  # the signs that a term may have; 
 EQUALITY = ("Rattle.std.specs.Prelude", "◌≡◌")
 # records made of their arguments, with the files that define them: an equation of one pins every argument
 ASSEMBLES = {"replied": "Rattle.reader_model.specs.Model", "outcome": "Rattle.lent_reader.specs.Held"}
+NUMBER = ("Rattle.answer.specs.Refusals", "number_in")  # what tells of a `Result` whether it is refused, and by which refusal
+IF_OK = ("Rattle.std.specs.Prelude", "IfOk")
+GHOST_FIELD = re.compile(r"^    (?:pub )?ghost (\w+): \{ ([^{}\n]*) \},$", re.M)  # a fact that holds of every value of a struct
 OUTSIDE = set()  # public calls whose result no contract can pin: none
 BY_POWERS_OF_TWO = ["field", "felt", "fold"]  # their code, and what it calls, divides and takes remainders by nothing else (request 2026-03)
 WRAPPING = re.compile(r"wrapping_(add|sub)_u(8|16|32|64)")  # what that code may call of std::num
@@ -199,8 +202,8 @@ def check_forms():
             lines = len(re.findall(r"^(?:pub )?mod \w+;$", text, re.M))
             if words.count("mod") != (0 if module else lines):
                 fault(where, "a module that the audit does not read")
-            if words.count("ghost") != len(re.findall(r"^ghost use [^\n]*;$", text, re.M)):
-                fault(where, "an import that the audit cannot read")
+            if words.count("ghost") != len(re.findall(r"^ghost use [^\n]*;$", text, re.M)) + len(GHOST_FIELD.findall(text)):
+                fault(where, "an import that the audit cannot read, or a ghost member")
             for a, b in zip(words, words[1:]):
                 if a == "pub" and not (b in {"fn", "extern", "mod", "struct", "enum", "const"} or b.isidentifier() and b not in {"use", "type"}):
                     fault(where, f"'pub {b}'")
@@ -223,7 +226,7 @@ def structs():
     found = {}
     for crate in crates():
         for path, _, _ in source(crate):
-            for name, fields in re.findall(r"pub struct (\w+)(?:<[^>]*>)?\s*\{([^}]*)\}", bare(path.read_text())):
+            for name, fields in re.findall(r"pub struct (\w+)(?:<[^>]*>)?\s*\{([^}]*)\}", GHOST_FIELD.sub("", bare(path.read_text()))):
                 if name in found:
                     fault(path.relative_to(ROOT), f"a second public struct {name}")
                 held = [f.replace("pub", "").partition(":") for f in fields.split(",") if f.strip()]
@@ -319,22 +322,35 @@ def pinned_by(left, call, fields):
         if is_lent(parameters(call).get(name, "")) and path[:1] == ["new"] and len(path) < 3:
             return [".".join([name, *path[1:]])]
         return None
+    if len(left) == 2 and left[1] == "result" and call.imports.get(left[0], ("", "", ""))[1:] == NUMBER:
+        return ["number"]
     if left and isinstance(left[0], str) and call.imports.get(left[0], ("", ""))[1] == ASSEMBLES.get(left[0], "none"):
         inner = [pinned_by([x], call, fields) for x in left[1:]]
         return None if None in inner else [p for found in inner for p in found]
     return None
 
 
+def value_of(items, call):
+    """The fact that `IfOk result (λ v. fact)` states of the value, with v named as it is; None if it is of no such form."""
+    if len(items) == 3 and items[:2] == ["IfOk", "result"] and call.imports.get("IfOk", ("", "", ""))[1:] == IF_OK and isinstance(items[2], list):
+        sign, name, *fact = items[2] + [""] * 2
+        if sign == "λ" and re.fullmatch(r"[a-z]\w*\.", name) and name[:-1] not in parameters(call):
+            return name[:-1], items[2][2:]
+    return None
+
+
 def check_tight(call, fields_of):
     pinned = set()
-    kind = (call.result or "").split("::")[-1].split("<")[0]
+    refusable = re.fullmatch(r"Result<(.*), Refusal>", call.result or "")
+    kind = (refusable.group(1) if refusable else call.result or "").split("::")[-1].split("<")[0]
     for clause in call.ensures:
         if clause.startswith("*"):
             fault(call.name, f"a contract that is no fact about the result: {clause}")
             return
         if "result" in parameters(call):
             fault(call.name, f"the result has a parameter's name: {clause}")
-        for items in conjuncts(tree(clause)):
+        of_value = value_of(tree(clause), call) if refusable else None
+        for items in conjuncts(of_value[1] if of_value else tree(clause)):
             fact = show(items)
             sides = split_at(items, "≡")
             if len(sides) != 2:
@@ -342,6 +358,15 @@ def check_tight(call, fields_of):
                 continue
             left, right = sides
             inside = list(leaves(right))
+            if of_value:
+                name, *path = left[0].split(".") if len(left) == 1 and isinstance(left[0], str) else [""]
+                if name != of_value[0] or len(path) > 1 or any(x.split(".")[0] == name for x in inside):
+                    fault(call.name, f"not what the value is: {fact}")
+                    continue
+                left = [".".join(["result", *path])]
+            elif refusable and left and isinstance(left[0], str) and left[0].split(".")[0] == "result":
+                fault(call.name, f"a result that may be refused is told by its number and its value: {fact}")
+                continue
             if any(x.split(".")[0] == "result" or LEFT & set(x.split(".")[1:]) for x in inside):
                 fault(call.name, f"the right side speaks of the result: {fact}")
             signs = [x for x in inside if not re.match(r"[\w.]", x) and x not in TERMS] + [x for x in inside if x.startswith("λ")]
@@ -352,7 +377,9 @@ def check_tight(call, fields_of):
                 fault(call.name, f"the left side is not the result, nor what is left: {fact}")
             else:
                 pinned |= set(got)
-    if call.result and "result" not in pinned:
+    if refusable and "number" not in pinned:
+        fault(call.name, "the contract does not pin the number of what may be refused")
+    if call.result and "result" not in pinned and not (refusable and kind == "()"):
         missing = fields_of.get(kind, {"result"}) - {f[1:] for f in pinned if f.startswith(".")}
         if missing:
             fault(call.name, f"the contract does not pin {', '.join(sorted(missing))} of {call.result}")
@@ -395,6 +422,18 @@ def check_meaning(call):
                 fault(call.name, f"'≡' is not equality: {got[1]}.{got[2]}")
             elif got[0] not in LIBRARY and not is_specs(got[1]):
                 fault(call.name, f"'{token}' is not from a specs file: {got[1]}")
+
+
+def check_ghost_fields():
+    """A fact that holds of every value of a struct means what its words say, as a contract does."""
+    for crate in crates():
+        for path, _, _ in source(crate):
+            text = bare(path.read_text())
+            imports = imports_of(text, "ghost ")
+            for name, body in re.findall(r"struct (\w+)(?:<[^>]*>)?\s*\{\n(.*?)^\}", text, re.M | re.S):
+                fields = ", ".join(f.strip() for f in GHOST_FIELD.sub("", body).replace("pub ", "").split(",") if f.strip())
+                for field, fact in GHOST_FIELD.findall(body):
+                    check_meaning(Call(f"{crate}::{name}.{field}", False, fields, "", [], [" ".join(fact.split())], imports))
 
 
 def check_names():
@@ -719,6 +758,7 @@ def audit(listed=False, write=False):
         if call.name not in OUTSIDE:
             check_tight(call, fields_of)
         check_meaning(call)
+    check_ghost_fields()
     check_names()
     check_divisions()
     of_programs = [f for f in every if f.ensures and (ROOT / "crates" / f.name.split("::")[0] / "src" / "main.rt").exists()]

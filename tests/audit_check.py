@@ -10,6 +10,7 @@ ROOT = Path(__file__).resolve().parent.parent
 
 FIELD = "crates/field/src/lib.rt"
 BUFFER = "crates/buffer/src/lib.rt"
+PARAMS = "crates/params/src/lib.rt"
 HEAD = "// A product and a number, reduced together.\n"
 SUM = "result ≡ add_mod a b"
 EQUAL = "◌≡◌, "  # among the names that a file imports of the library
@@ -56,6 +57,13 @@ CASES = [
     ("look_up::look_up: the contract does not pin part.ref_ptr of Found", ("crates/look_up/src/lib.rt", " × (result.part.ref_ptr ≡ spec.look_up_place p proof.entry.ref_ptr proof.now query layer)", "")),
     ("look_up::look_up: the contract does not pin part of Found", ("crates/look_up/src/lib.rt", " × (result.part.now ≡ spec.look_up_part p proof.now query layer)", "")),
     ("does not pin count of Transcript", ("crates/transcript/src/lib.rt", "    pub state: [u8; 32],\n", "    pub state: [u8; 32],\n    pub count: u32,\n")),
+    ("params::admitted: the contract does not pin the number", (PARAMS, "    ensures number { number_in result ≡ admission.admission p }\n", "")),
+    ("params::admitted: the contract does not pin params of Result", (PARAMS, "    ensures ok { IfOk result (λ v. v.params ≡ p) }\n", "")),
+    ("params::admitted: not what the value is", (PARAMS, "λ v. v.params ≡ p", "λ v. v.params ≡ v.params")),
+    ("params::admitted: not an equation", (PARAMS, "λ v. v.params ≡ p", "λ v. Valid v.params"), (PARAMS, BEFORE, "ghost use Rattle.params.specs.Parameters.{Valid};\n" + BEFORE)),
+    ("params::admitted: a result that may be refused", (PARAMS, "λ v. v.params ≡ p", "λ v. v.params ≡ p) × (result ≡ result")),
+    ("params::ValidParams.valid: 'Valid' comes from nowhere", (PARAMS, "spec.Valid params", "Valid params")),
+    ("an import that the audit cannot read, or a ghost member", (PARAMS, "    pub ghost valid: { spec.Valid params },", "    pub ghost valid: {\n        spec.Valid params\n    },")),
     ("a second public struct Transcript", (FIELD, HEAD, "pub struct Transcript {}\n\n" + HEAD)),
     ("reader::piece_in_place: the contract does not pin what is left in roots", ("crates/reader/src/lib.rt", "replied result.answer result.core roots.new", "replied result.answer result.core challenges.new")),
     ("reader::piece_in_place: the left side is not the result", ("crates/reader/src/lib.rt", "replied result.answer result.core", "replied result.answer core")),

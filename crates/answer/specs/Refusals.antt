@@ -1,5 +1,6 @@
 -- The refusals of the code by their numbers in the table.
-use Rattle.std.specs.Prelude.{ℕ, Result, Ok, Err}
+use Rattle.std.specs.Prelude.{ℕ, Ok, Err}
+use Rattle.std.specs.Prelude as prelude
 use Rattle.answer.specs.Table.{open_so_far, parameters_not_valid, closed, job_too_short, message_too_long, inverse_of_zero, no_such_opening, count_differs, parameters_differ, not_below_modulus, path_misses_root, not_the_folded_value, misses_final_polynomial, too_few_bytes, byte_after_the_end, wrong_coefficient_count, scratch_too_short, output_too_short}
 use Rattle.answer.specs.declared.Refusal.{Refusal}
 use Rattle.answer.specs.declared.Refusal.TheVariants as r
@@ -24,6 +25,6 @@ number_of r.ScratchTooShort = scratch_too_short
 number_of r.OutputTooShort = output_too_short
 
 -- the number of what may be refused: that of its refusal, or 0 where there is none
-abbrev pub number_in : {A : Type 0} → Result A Refusal → ℕ
+abbrev pub number_in : {A : Type 0} → prelude.Result A Refusal → ℕ
 number_in (Ok _) = open_so_far
 number_in (Err r) = number_of r
