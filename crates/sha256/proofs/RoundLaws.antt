@@ -14,13 +14,21 @@ use Rattle.sha256.specs.Private.{Extends, window, Turns, LastRounds}
 use Rattle.sha256.specs.Sha256.{round, rounds, sum1, sum2, schedule, extend, next_word, add_words, compress, absorb, block}
 use Rattle.sha256.proofs.Build.{length-build, get_d_build, sixteen}
 
+-- five words added, one after the other
+abbrev added : ℕ → ℕ → ℕ → ℕ → ℕ → ℕ
+added a b c d e = ((((a + b) % 2 ^ 32 + c) % 2 ^ 32 + d) % 2 ^ 32 + e) % 2 ^ 32
+
+added_sum : (a b c d e : ℕ) → added a b c d e ≡ (a + b + c + d + e) % 2 ^ 32
+added_sum a b c d e = omega arith
+
 -- a round, from its parts
-pub round_is : (s : List ℕ) (k w : ℕ) {s1 c t1 s0 m t2 x y : ℕ} → s1 ≡ big_sigma1 (get_or s 4 0) → c ≡ ch (get_or s 4 0) (get_or s 5 0) (get_or s 6 0)
-    → t1 ≡ (get_or s 7 0 + s1 + c + k + w) % 2 ^ 32 → s0 ≡ big_sigma0 (get_or s 0 0) → m ≡ maj (get_or s 0 0) (get_or s 1 0) (get_or s 2 0)
-    → t2 ≡ (s0 + m) % 2 ^ 32 → x ≡ (t1 + t2) % 2 ^ 32 → y ≡ (get_or s 3 0 + t1) % 2 ^ 32
-    → ◌≡◌ {A = List ℕ} (x ∷ get_or s 0 0 ∷ get_or s 1 0 ∷ get_or s 2 0 ∷ y ∷ get_or s 4 0 ∷ get_or s 5 0 ∷ get_or s 6 0 ∷ []) (round s k w)
+pub round_is : (s : List ℕ) (k w : ℕ) {s1 c s0 m : ℕ} → s1 ≡ big_sigma1 (get_or s 4 0) → c ≡ ch (get_or s 4 0) (get_or s 5 0) (get_or s 6 0)
+    → s0 ≡ big_sigma0 (get_or s 0 0) → m ≡ maj (get_or s 0 0) (get_or s 1 0) (get_or s 2 0)
+    → ◌≡◌ {A = List ℕ}
+    ((added (get_or s 7 0) s1 c k w + (s0 + m) % 2 ^ 32) % 2 ^ 32 ∷ get_or s 0 0 ∷ get_or s 1 0 ∷ get_or s 2 0
+    ∷ (get_or s 3 0 + added (get_or s 7 0) s1 c k w) % 2 ^ 32 ∷ get_or s 4 0 ∷ get_or s 5 0 ∷ get_or s 6 0 ∷ []) (round s k w)
 unfolding round sum1 sum2
-round_is s k w p q r t u v e f = rw (e, f, v, r, p, q, t, u)
+round_is s k w {s1} {c} {s0} {m} p q u v = rw (added_sum (get_or s 7 0) s1 c k w, p, q, u, v)
 
 -- eight rounds from round t on, each from the one before: round t + j has the constant c and the word y that stand there
 module _ (words h : List ℕ) (t : ℕ) where
@@ -55,10 +63,10 @@ module _ (words : List ℕ) where
   window_at n e i u lt f =
       ap (λ (l : List ℕ). get_or l i 0) e ∙ get_d_build (λ i. get_or words (n + i) 0) 16 i lt ∙ ap (λ (j : ℕ). get_or words j 0) (sym f)
 
-  -- a round's parts, from the table and a window
-  pub at_window : {k w : List ℕ} (h : List ℕ) (t n : ℕ) → k ≡ round_constants → w ≡ window words n → (u j i : ℕ) → j ≡ u → i < 16 → u ≡ n + i
-      → At words h t u (get_or k j 0) (get_or w i 0)
-  at_window h t n table e u j i f lt g = record { constant = rw (table, f); word = window_at n e i u lt g }
+  -- a round's parts, from a window
+  pub at_window : {w : List ℕ} (h : List ℕ) (t n : ℕ) → w ≡ window words n → (u j i : ℕ) → j ≡ u → i < 16 → u ≡ n + i
+      → At words h t u (get_or round_constants j 0) (get_or w i 0)
+  at_window h t n e u j i f lt g = record { constant = rw f; word = window_at n e i u lt g }
 
   -- the next word after a window, from the words before it: entry i of what follows, which is word n + i
   pub word_next : {x a b c d : ℕ} (n i : ℕ) → Extends words → n + i < 48 → a ≡ get_or words (n + i) 0 → b ≡ get_or words (n + (i + 1)) 0
@@ -93,28 +101,28 @@ module _ (words : List ℕ) where
       new i j f = ap (λ (u : ℕ). get_or words u 0) (omega arith)
 
 -- a turn, from its rounds and its words
-pub turned : (k s w : List ℕ) (n : ℕ) {s0 s1 s2 s3 s4 s5 s6 s7 : List ℕ} {x0 x1 x2 x3 x4 x5 x6 x7 : ℕ} → k ≡ round_constants → n ≤ 40
-    → s0 ≡ round s (get_or k n 0) (get_or w 0 0)
+pub turned : (s w : List ℕ) (n : ℕ) {s0 s1 s2 s3 s4 s5 s6 s7 : List ℕ} {x0 x1 x2 x3 x4 x5 x6 x7 : ℕ} → n ≤ 40
+    → s0 ≡ round s (get_or round_constants n 0) (get_or w 0 0)
     → x0 ≡ (small_sigma1 (get_or w 14 0) + get_or w 9 0 + small_sigma0 (get_or w 1 0) + get_or w 0 0) % 2 ^ 32
-    → s1 ≡ round s0 (get_or k (n + 1) 0) (get_or w 1 0)
+    → s1 ≡ round s0 (get_or round_constants (n + 1) 0) (get_or w 1 0)
     → x1 ≡ (small_sigma1 (get_or w 15 0) + get_or w 10 0 + small_sigma0 (get_or w 2 0) + get_or w 1 0) % 2 ^ 32
-    → s2 ≡ round s1 (get_or k (n + 2) 0) (get_or w 2 0)
+    → s2 ≡ round s1 (get_or round_constants (n + 2) 0) (get_or w 2 0)
     → x2 ≡ (small_sigma1 x0 + get_or w 11 0 + small_sigma0 (get_or w 3 0) + get_or w 2 0) % 2 ^ 32
-    → s3 ≡ round s2 (get_or k (n + 3) 0) (get_or w 3 0)
+    → s3 ≡ round s2 (get_or round_constants (n + 3) 0) (get_or w 3 0)
     → x3 ≡ (small_sigma1 x1 + get_or w 12 0 + small_sigma0 (get_or w 4 0) + get_or w 3 0) % 2 ^ 32
-    → s4 ≡ round s3 (get_or k (n + 4) 0) (get_or w 4 0)
+    → s4 ≡ round s3 (get_or round_constants (n + 4) 0) (get_or w 4 0)
     → x4 ≡ (small_sigma1 x2 + get_or w 13 0 + small_sigma0 (get_or w 5 0) + get_or w 4 0) % 2 ^ 32
-    → s5 ≡ round s4 (get_or k (n + 5) 0) (get_or w 5 0)
+    → s5 ≡ round s4 (get_or round_constants (n + 5) 0) (get_or w 5 0)
     → x5 ≡ (small_sigma1 x3 + get_or w 14 0 + small_sigma0 (get_or w 6 0) + get_or w 5 0) % 2 ^ 32
-    → s6 ≡ round s5 (get_or k (n + 6) 0) (get_or w 6 0)
+    → s6 ≡ round s5 (get_or round_constants (n + 6) 0) (get_or w 6 0)
     → x6 ≡ (small_sigma1 x4 + get_or w 15 0 + small_sigma0 (get_or w 7 0) + get_or w 6 0) % 2 ^ 32
-    → s7 ≡ round s6 (get_or k (n + 7) 0) (get_or w 7 0)
+    → s7 ≡ round s6 (get_or round_constants (n + 7) 0) (get_or w 7 0)
     → x7 ≡ (small_sigma1 x5 + x0 + small_sigma0 (get_or w 8 0) + get_or w 7 0) % 2 ^ 32
     → Turns n s w s7 (get_or w 8 0 ∷ get_or w 9 0 ∷ get_or w 10 0 ∷ get_or w 11 0 ∷ get_or w 12 0 ∷ get_or w 13 0 ∷ get_or w 14 0 ∷ get_or w 15 0
     ∷ x0 ∷ x1 ∷ x2 ∷ x3 ∷ x4 ∷ x5 ∷ x6 ∷ x7 ∷ [])
-turned k s w n table le r0 e0 r1 e1 r2 e2 r3 e3 r4 e4 r5 e5 r6 e6 r7 e7 = record {
+turned s w n le r0 e0 r1 e1 r2 e2 r3 e3 r4 e4 r5 e5 r6 e6 r7 e7 = record {
   follow = λ words h e p.
-      let parts : (j i : ℕ) → i < 16 → j ≡ n + i → At words h n (n + i) (get_or k j 0) (get_or w i 0) = λ j i lt f. at_window words h n n table e (n + i) j i f lt refl in
+      let parts : (j i : ℕ) → i < 16 → j ≡ n + i → At words h n (n + i) (get_or round_constants j 0) (get_or w i 0) = λ j i lt f. at_window words h n n e (n + i) j i f lt refl in
       rounds_eight words h n p (parts n 0 (omega arith) (omega arith)) (parts (n + 1) 1 (omega arith) refl) (parts (n + 2) 2 (omega arith) refl) (parts (n + 3) 3 (omega arith) refl) (parts (n + 4) 4 (omega arith) refl) (parts (n + 5) 5 (omega arith) refl) (parts (n + 6) 6 (omega arith) refl) (parts (n + 7) 7 (omega arith) refl) r0 r1 r2 r3 r4 r5 r6 r7;
   slide = λ words ext e.
       let old : (i : ℕ) → i < 16 → get_or w i 0 ≡ get_or words (n + i) 0 = λ i lt. window_at words n e i (n + i) lt refl in
@@ -130,19 +138,19 @@ turned k s w n table le r0 e0 r1 e1 r2 e2 r3 e3 r4 e4 r5 e5 r6 e6 r7 e7 = record
 }
 
 -- eight of the last sixteen rounds
-pub last_eight : (k w words h : List ℕ) (n : ℕ) {s s0 s1 s2 s3 s4 s5 s6 s7 : List ℕ} → k ≡ round_constants → n + 8 ≤ 16 → w ≡ window words 48
+pub last_eight : (w words h : List ℕ) (n : ℕ) {s s0 s1 s2 s3 s4 s5 s6 s7 : List ℕ} → n + 8 ≤ 16 → w ≡ window words 48
     → s ≡ rounds words h (48 + n)
-    → s0 ≡ round s (get_or k (n + 48) 0) (get_or w n 0)
-    → s1 ≡ round s0 (get_or k (n + 49) 0) (get_or w (n + 1) 0)
-    → s2 ≡ round s1 (get_or k (n + 50) 0) (get_or w (n + 2) 0)
-    → s3 ≡ round s2 (get_or k (n + 51) 0) (get_or w (n + 3) 0)
-    → s4 ≡ round s3 (get_or k (n + 52) 0) (get_or w (n + 4) 0)
-    → s5 ≡ round s4 (get_or k (n + 53) 0) (get_or w (n + 5) 0)
-    → s6 ≡ round s5 (get_or k (n + 54) 0) (get_or w (n + 6) 0)
-    → s7 ≡ round s6 (get_or k (n + 55) 0) (get_or w (n + 7) 0)
+    → s0 ≡ round s (get_or round_constants (n + 48) 0) (get_or w n 0)
+    → s1 ≡ round s0 (get_or round_constants (n + 49) 0) (get_or w (n + 1) 0)
+    → s2 ≡ round s1 (get_or round_constants (n + 50) 0) (get_or w (n + 2) 0)
+    → s3 ≡ round s2 (get_or round_constants (n + 51) 0) (get_or w (n + 3) 0)
+    → s4 ≡ round s3 (get_or round_constants (n + 52) 0) (get_or w (n + 4) 0)
+    → s5 ≡ round s4 (get_or round_constants (n + 53) 0) (get_or w (n + 5) 0)
+    → s6 ≡ round s5 (get_or round_constants (n + 54) 0) (get_or w (n + 6) 0)
+    → s7 ≡ round s6 (get_or round_constants (n + 55) 0) (get_or w (n + 7) 0)
     → s7 ≡ rounds words h (48 + (n + 8))
-last_eight k w words h n table le e p r0 r1 r2 r3 r4 r5 r6 r7 =
-    let parts : (u j i : ℕ) → j ≡ u → i < 16 → u ≡ 48 + i → At words h (48 + n) u (get_or k j 0) (get_or w i 0) = at_window words h (48 + n) 48 table e in
+last_eight w words h n le e p r0 r1 r2 r3 r4 r5 r6 r7 =
+    let parts : (u j i : ℕ) → j ≡ u → i < 16 → u ≡ 48 + i → At words h (48 + n) u (get_or round_constants j 0) (get_or w i 0) = at_window words h (48 + n) 48 e in
     let on : 48 + n + 8 ≡ 48 + (n + 8) = omega arith in
     rounds_eight words h (48 + n) p
     (parts (48 + n + 0) (n + 48) n (omega arith) (omega arith) (omega arith))

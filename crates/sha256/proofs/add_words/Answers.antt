@@ -1,9 +1,9 @@
--- `sha256::add_words` meets its contract: each word is the sum that `add2` ensures.
+-- `sha256::add_words` meets its contract: each call of the closure gives the sum of two words.
+use borrow.Author.Rules.{rules}
 use Rattle.sha256.specs.Sha256.{add_words}
-use Rattle.sha256.proofs.Build.{eight}
+use Rattle.sha256.proofs.Build.{made}
 use Rattle.sha256.proofs.add_words.Goals as goal
 
 pub returns : goal.returns
 unfolding add_words
-returns c =
-    eight _ c.add2.ensures c.add2-2.ensures c.add2-3.ensures c.add2-4.ensures c.add2-5.ensures c.add2-6.ensures c.add2-7.ensures c.add2-8.ensures
+returns c = made _ _ _ (λ i y q k. search rules) 8 _ c.from_fn.ensures.items

@@ -1,15 +1,14 @@
--- `sha256::bytes_of` meets its contract. The loop's invariant: the first i bytes are those of the words.
+-- `sha256::bytes_of` meets its contract: each call of the closure gives a byte of a word.
+use Prim.Native.Nat.{◌/◌, ◌%◌}
 use native.Mathlib.Omega.{arith}
+use borrow.Author.Rules.{rules}
+use lib.ListN.{get_or}
 use Rattle.sha256.specs.Sha256.{bytes_of}
-use Rattle.sha256.proofs.Build.{filled_none, filled_more, filled_all}
+use Rattle.sha256.proofs.Build.{made}
+use Rattle.sha256.proofs.Padding.{byte_is}
 use Rattle.sha256.proofs.bytes_of.Goals as goal
-
-pub loop-i-init : goal.loop-i-init
-loop-i-init c = filled_none _ _
-
-pub loop-i-preserved : goal.loop-i-preserved
-loop-i-preserved c = filled_more _ c.loop-i.invariant (omega arith) c.byte_of.ensures
 
 pub returns : goal.returns
 unfolding bytes_of
-returns c = filled_all c.loop-i.invariant (omega arith)
+returns c =
+    made _ _ _ (λ i y q k. let byte = byte_is (get_or c.args.h (i / 4) 0) (i % 4) (omega arith) in search rules) 32 _ c.from_fn.ensures.items

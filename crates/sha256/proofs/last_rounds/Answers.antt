@@ -11,13 +11,13 @@ loop-n-preserved c =
     let fits : start.n + 8 ≤ 16 = omega (arith, start.invariant.0, start.invariant.1, c.loop-n-test.true) in (
       omega (arith, fits),
       omega (arith, start.invariant.1),
-      λ words h e p. last_eight _ _ words h start.n c.requires fits e (start.invariant.2 words h e p)
-          c.round_at-s0.ensures
-          c.round_at-s1.ensures
-          c.round_at-s2.ensures
-          c.round_at-s3.ensures
-          c.round_at-s4.ensures
-          c.round_at-s5.ensures
-          c.round_at-s6.ensures
-          c.round_at-s7.ensures,
+      λ words h e p. last_eight _ words h start.n fits e (start.invariant.2 words h e p)
+          c.round-s0.ensures
+          c.round-s1.ensures
+          c.round-s2.ensures
+          c.round-s3.ensures
+          c.round-s4.ensures
+          c.round-s5.ensures
+          c.round-s6.ensures
+          c.round-s7.ensures,
     )
