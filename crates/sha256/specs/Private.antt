@@ -1,7 +1,6 @@
 -- What only the contracts of private functions cite.
-use Rattle.std.specs.Prelude.{◌≡◌, cond, List, ℕ, ◌+◌, ◌/◌, ◌<◌, leb, length, get_or, replicate}
-use Rattle.answer.specs.Table.{open_so_far, message_too_long}
-use Rattle.sha256.specs.Sha256.{absorb, pad, next_word, rounds}
+use Rattle.std.specs.Prelude.{◌≡◌, List, ℕ, ◌+◌, ◌<◌, get_or}
+use Rattle.sha256.specs.Sha256.{next_word, rounds}
 use Rattle.sha256.specs.Words.{build}
 
 -- every word of the 64 from the seventeenth on is that of the schedule
@@ -20,10 +19,3 @@ pub record Turns (n : ℕ) (s w s' w' : List ℕ) : Type 0 where
 -- r is the state after 64 rounds where s is that after 48 and w are the last sixteen words
 pub record LastRounds (w s r : List ℕ) : Type 0 where
   pub follow : (words h : List ℕ) → w ≡ window words 48 → s ≡ rounds words h 48 → r ≡ rounds words h 64
-
--- the hash value, or zeros where the message is too long
-unfoldable pub final_words : List ℕ → List ℕ
-final_words m = cond (leb (length m) 4096) (absorb (pad m) (length (pad m) / 64)) (replicate 8 0)
-
-unfoldable pub hash_number : ℕ → ℕ
-hash_number n = cond (leb n 4096) open_so_far message_too_long

@@ -7,15 +7,16 @@ ghost use Rattle.sha256.specs.Words.{ch, maj, big_sigma0, big_sigma1, small_sigm
 ghost use Rattle.sha256.specs.Constants.{round_constants};
 ghost use Rattle.sha256.specs.Sha256 as spec;
 ghost use Rattle.sha256.specs.Hash.{hashed};
-ghost use Rattle.sha256.specs.Private.{Turns, LastRounds, final_words, hash_number};
+ghost use Rattle.sha256.specs.Private.{Turns, LastRounds};
 
-use answer::Answer;
+use answer::{Answer, Refusal};
 use std::array::from_fn;
 
 // The longest message that is hashed, in bytes.
 pub const LONGEST: usize = 4096;
 
 // The answer to a message, and beside it the digest, or zeros beside a refusal.
+// Stays a flag with a value beside it: `hashed` promises the zeros beside 14, and C reads both fields.
 #[repr(C)]
 #[derive(Clone, Copy)]
 pub struct Hashed {
@@ -274,38 +275,21 @@ fn absorb(m: &[u8]) -> [u32; 8]
     h
 }
 
-// The hash value of a message of at most 4,096 bytes, or zeros for a longer one.
-fn final_words(message: &[u8]) -> [u32; 8]
-    ensures { result ≡ final_words message.now }
-{
-    if message.len() <= LONGEST {
-        absorb(message)
-    } else {
-        [0u32; 8]
-    }
-}
-
-// The number of the answer for a message of this length.
-fn number_of(len: usize) -> u8
-    ensures { result ≡ hash_number len }
-{
-    if len <= LONGEST {
-        answer::OPEN
-    } else {
-        answer::MESSAGE_TOO_LONG
-    }
-}
-
-// The digest of a message of at most 4,096 bytes; of a longer one, number 14 and zeros. Both ways meet at the eight words, before they become
-// bytes: where they met at the 32 bytes, the compiled code moved the digest a byte at a time.
+// The digest of a message of at most 4,096 bytes; of a longer one, number 14 and zeros.
 pub fn hash(message: &[u8]) -> Hashed
     ensures { result ≡ hashed message.now }
 {
-    let h = final_words(message);
-    let digest = bytes_of(h);
-    let number = number_of(message.len());
+    if message.len() > LONGEST {
+        return Hashed {
+            answer: Refusal::MessageTooLong.at(0),
+            digest: [0; 32],
+        };
+    }
     Hashed {
-        answer: Answer { number, place: 0 },
-        digest,
+        answer: Answer {
+            number: answer::OPEN,
+            place: 0,
+        },
+        digest: bytes_of(absorb(message)),
     }
 }
