@@ -167,9 +167,7 @@ fn rounds(h: [u32; 8], m: [u32; 16]) -> [u32; 8]
     let mut s = h;
     let mut w = m;
     for n in (0..48).step_by(8) {
-        let later = turn(s, w, n);
-        let state = later.state;
-        let words = later.words;
+        let Later { state, words } = turn(s, w, n);
         s = state;
         w = words;
     }
@@ -194,14 +192,13 @@ fn compress(h: [u32; 8], m: [u32; 16]) -> [u32; 8]
     add_words(h, rounds(h, m))
 }
 
-// The sixteen words of a block of 64 bytes, 5.2.1.
-fn words_of(block: &[u8]) -> [u32; 16]
-    requires { length block.now ≡ 64 }
+// The sixteen words of a block, 5.2.1.
+fn words_of(block: &[u8; 64]) -> [u32; 16]
     ensures { result ≡ spec.block block.now 0 }
 {
     from_fn(
         |j|
-            requires { (length block.now ≡ 64) × (j < 16) }
+            requires { j < 16 }
         {
             let at = j * 4;
             u32::from_be_bytes([block[at], block[at + 1], block[at + 2], block[at + 3]])
@@ -242,10 +239,10 @@ fn load(m: &[u8], i: usize) -> [u32; 16]
     requires { i < (length m.now + 72) / 64 }
     ensures { result ≡ spec.block (spec.pad m.now) i }
 {
-    if i * 64 + 64 <= m.len() {
-        words_of(&m[i * 64..i * 64 + 64])
-    } else {
-        words_of(&last_block(m, i))
+    let (whole, _) = m.as_chunks::<64>();
+    match whole.get(i) {
+        Some(block) => words_of(block),
+        None => words_of(&last_block(m, i)),
     }
 }
 

@@ -21,7 +21,7 @@ loop-n-preserved c =
     let m = c.args.m in
     let size : length m ≡ 16 = search rules in
     let fits : start.n + 8 ≤ 48 = omega (arith, start.invariant.0, start.invariant.1, c.loop-n-test.true) in
-    let made = c.turn-later.ensures in (
+    let made = c.turn.ensures in (
       fits,
       omega (arith, start.invariant.1),
       made.follow (schedule m 48) _ start.invariant.3 start.invariant.2,
