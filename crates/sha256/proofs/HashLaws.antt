@@ -1,18 +1,18 @@
 -- What `hash` answers, and the facts of a digest that callers need: it has 32 elements, each below 256.
 -- Assumes nothing.
-use mathlib.Core.Path.{◌≡◌, refl}
+use mathlib.Core.Path.{◌≡◌}
 use mathlib.Core.List.{List}
 use Prim.Native.Nat.{ℕ, ◌+◌, ◌/◌, ◌≤◌, ◌<◌}
 use native.Mathlib.Nat.{mod-lt}
 use native.Mathlib.Omega.{arith}
 use borrow.Author.Tests.{le-leb, lt-leb}
-use lib.Dec.{leb, lit<}
+use lib.Dec.{lit<}
 use lib.ListN.{length, get_or, replicate}
 use Rattle.answer.specs.declared.Answer.{Answer}
 use Rattle.answer.specs.Table.{answered, open_so_far, message_too_long}
 use Rattle.sha256.specs.declared.Hashed.{Hashed}
 use Rattle.sha256.specs.Sha256.{pad, absorb, bytes_of, sha256}
-use Rattle.sha256.specs.Hash.{hashed, digested, too_long}
+use Rattle.sha256.specs.Hash.{hashed, digested}
 use Rattle.sha256.proofs.Build.{length-build, get_d_build}
 use Rattle.sha256.proofs.Padding.{length-pad}
 
