@@ -7,17 +7,16 @@ ghost use Rattle.std.specs.Prelude.{◌≡◌, ◌^◌, ◌%◌, ◌/◌};
 pub fn power_of_two(bits: u8) -> usize
     ensures { result ≡ 2 ^ bits % 2 ^ 64 }
 {
-    if bits < 64 { 1usize << bits } else { 0 }
+    1usize.unbounded_shl(bits.into())
 }
 
 // The remainder by 2^bits.
 pub fn low_bits(v: u32, bits: u8) -> u32
     ensures { result ≡ v % 2 ^ bits }
 {
-    if bits < 32 {
-        (v as usize % power_of_two(bits)) as u32
-    } else {
-        v
+    match 1u32.checked_shl(bits.into()) {
+        Some(power) => v % power,
+        None => v,
     }
 }
 
@@ -25,9 +24,5 @@ pub fn low_bits(v: u32, bits: u8) -> u32
 pub fn high_bits(v: u32, bits: u8) -> u32
     ensures { result ≡ v / 2 ^ bits }
 {
-    if bits < 32 {
-        (v as usize / power_of_two(bits)) as u32
-    } else {
-        0
-    }
+    v.unbounded_shr(bits.into())
 }

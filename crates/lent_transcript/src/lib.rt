@@ -45,7 +45,7 @@ pub fn layer(t: Transcript, root: [u8; 32]) -> Absorbed
     let challenge = absorb_layer(&mut lent, root);
     Absorbed {
         state: lent.state,
-        challenge: challenge,
+        challenge,
     }
 }
 

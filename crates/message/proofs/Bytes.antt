@@ -2,11 +2,12 @@
 use Prim.Native.Nat.{ℕ, zero, suc, ◌+◌, ◌*◌, ◌^◌, ◌%◌, ◌-◌, ◌<◌, ◌≤◌, ◌/◌}
 use mathlib.Core.List.{List, [], ◌∷◌, ◌++◌, append_assoc, append-nil}
 use mathlib.Core.Path.{◌≡◌, refl, ap, sym, ◌∙◌, ap₂}
-use native.Mathlib.Nat.{zero-add, add_comm, mul-zero, pow-suc, pow-zero, mod-eq_of_lt, mul-suc, mod-one, suc-add, zero-lt-suc, one-le-pow}
+use native.Mathlib.Nat.{zero-add, add_comm, mul-zero, pow-suc, pow-zero, mod-eq_of_lt, mul-suc, mod-one, suc-add, zero-lt-suc, one-le-pow, div-one, div-div-eq-div-mul}
 use native.Mathlib.Omega.{arith}
 use lib.Arith.{mod-mul}
 use lib.ListN.{length, get_or, take, drop, length-append}
 use lib.Seq.{take-take, take-nil, drop-drop, drop-append-add, take_at, drop_at, drop-cons}
+use Rattle.std.specs.Int.{byte_at, bytes_low_first}
 use Rattle.message.specs.Bytes.{le, num, part, joined, Bytes, empty, byte}
 
 pub le-length : (w v : ℕ) → length (le w v) ≡ w
@@ -18,6 +19,22 @@ pub num-le : (w v : ℕ) → num (le w v) ≡ v % 256 ^ w
 unfolding le num
 num-le zero v = rw (pow-zero 256) (sym (mod-one v))
 num-le (suc w) v = rw (num-le w (v / 256), pow-suc 256 w, mod-mul v (one-le-pow w 256 (omega arith)) (zero-lt-suc 255)) (omega arith)
+
+-- `to_le_bytes` writes these bytes.
+low_from : (w i v : ℕ) → bytes_low_first i w v ≡ le w (v / 256 ^ i)
+unfolding le
+low_from zero i v = refl
+low_from (suc w) i v = ap₂ (λ b bs. b ∷ bs) (at i) (low_from w (suc i) v ∙ ap (le w) next)
+  where
+    at : (k : ℕ) → byte_at k v ≡ v / 256 ^ k % 256
+    at zero = ap (λ u. u % 256) (sym (div-one v))
+    at (suc k) = refl
+
+    next : v / 256 ^ suc i ≡ v / 256 ^ i / 256
+    next = ap (λ u. v / u) (pow-suc 256 i) ∙ sym (div-div-eq-div-mul v (256 ^ i) 256)
+
+pub low_bytes : (w v : ℕ) → bytes_low_first 0 w v ≡ le w v
+low_bytes w v = low_from w 0 v ∙ ap (le w) (div-one v)
 
 -- Writing and reading back, for a number that fits.
 pub num-le-below : (w v : ℕ) → v < 256 ^ w → num (le w v) ≡ v
@@ -132,19 +149,3 @@ num_eight d h =
 pub num_two : (d : List ℕ) → 2 ≤ length d → num (take 2 d) ≡ get_or d 0 0 + 256 * get_or d 1 0
 unfolding num
 num_two d h = rw (num_front d 0 1 (omega arith), num_front d 1 0 (omega arith)) (omega arith)
-
--- The same numbers of bytes that were read one by one.
-pub two_read : (d : List ℕ) {a b : ℕ} → 2 ≤ length d → a ≡ get_or d 0 0 → b ≡ get_or d 1 0 → a + 256 * b ≡ num (take 2 d)
-two_read d h ea eb = ap₂ (λ x y. x + 256 * y) ea eb ∙ sym (num_two d h)
-
-pub word_read : {a b c e a₁ b₁ c₁ e₁ : ℕ} → a ≡ a₁ → b ≡ b₁ → c ≡ c₁ → e ≡ e₁
-    → a + 256 * (b + 256 * (c + 256 * e)) ≡ a₁ + 256 * (b₁ + 256 * (c₁ + 256 * e₁))
-word_read ea eb ec ee = ap₂ (λ x y. x + 256 * y) ea (ap₂ (λ x y. x + 256 * y) eb (ap₂ (λ x y. x + 256 * y) ec ee))
-
-pub four_read : (d : List ℕ) {a b c e : ℕ} → 4 ≤ length d → a ≡ get_or d 0 0 → b ≡ get_or d 1 0 → c ≡ get_or d 2 0 → e ≡ get_or d 3 0
-    → a + 256 * (b + 256 * (c + 256 * e)) ≡ num (take 4 d)
-four_read d h ea eb ec ee = word_read ea eb ec ee ∙ sym (num_four d h)
-
-pub eight_read : (d : List ℕ) {low a b c e : ℕ} → 8 ≤ length d → low ≡ num (take 4 d) → a ≡ get_or d 4 0 → b ≡ get_or d 5 0 → c ≡ get_or d 6 0 → e ≡ get_or d 7 0
-    → low + 4294967296 * (a + 256 * (b + 256 * (c + 256 * e))) ≡ num (take 8 d)
-eight_read d h el ea eb ec ee = ap₂ (λ x y. x + 4294967296 * y) el (word_read ea eb ec ee) ∙ sym (num_eight d h)

@@ -36,8 +36,8 @@ pub fn write(
             bytes,
             &mut output[..length],
         );
-        buffer::clear_numbers(numbers);
-        buffer::clear_bytes(bytes);
+        buffer::clear(numbers);
+        buffer::clear(bytes);
         return Answer {
             number,
             place: length as u32,

@@ -17,7 +17,7 @@ fn final_of(numbers: &[u32], count: usize) -> [u32; 64]
     ensures { take count result ≡ take count numbers.now }
 {
     let mut r = [0u32; 64];
-    buffer::put_numbers(&mut r, &numbers[..count]);
+    buffer::put(&mut r, 0, &numbers[..count]);
     r
 }
 
@@ -67,7 +67,7 @@ pub fn file(
     requires { Valid p × ((length coefficients.now ≡ 2 ^ (p.n - p.b)) × ((2 * 2 ^ p.n ≤ length numbers.old) × ((64 * 2 ^ p.n ≤ length bytes.old) × (length file.old ≡ file_length p)))) }
     ensures { file.new ≡ built_file sha256 p context coefficients.now }
 {
-    buffer::put_numbers(numbers, coefficients);
+    buffer::put(numbers, 0, coefficients);
     head(p, file);
     let committed = writer_layers::layers::layers(
         p,

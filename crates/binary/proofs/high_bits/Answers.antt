@@ -1,7 +1,7 @@
 -- `binary::high_bits` meets its contract.
 use borrow.Author.Rules.{rules}
-use Rattle.binary.proofs.BinaryLaws.{high_none}
+use Rattle.binary.proofs.BinaryLaws.{high_shifted}
 use Rattle.binary.proofs.high_bits.Goals as goal
 
-pub returns-else-bits-lt32 : goal.returns-else-bits-lt32
-returns-else-bits-lt32 c = high_none _ _ (search rules) c.if-bits-lt32.false
+pub returns : goal.returns
+returns c = high_shifted c.args.v c.args.bits (search rules) (rw c.into.ensures at c.unbounded_shr.ensures)

@@ -1,7 +1,8 @@
 -- `binary::low_bits` meets its contract.
+use native.Mathlib.Omega.{arith}
 use borrow.Author.Rules.{rules}
 use Rattle.binary.proofs.BinaryLaws.{low_all}
 use Rattle.binary.proofs.low_bits.Goals as goal
 
-pub returns-else-bits-lt32 : goal.returns-else-bits-lt32
-returns-else-bits-lt32 c = low_all _ _ (search rules) c.if-bits-lt32.false
+pub returns-in-None : goal.returns-in-None
+returns-in-None c = low_all _ _ (search rules) (omega (arith, c.in-None.ensures, c.into.ensures))

@@ -1,9 +1,7 @@
 -- `message::number_bytes` meets its contract.
-use mathlib.Core.Path.{refl}
-use Rattle.message.specs.Bytes.{le}
+use mathlib.Core.Path.{◌∙◌}
+use Rattle.message.proofs.Bytes.{low_bytes}
 use Rattle.message.proofs.number_bytes.Goals as goal
 
--- src/lib.rt:13:1
 pub returns : goal.returns
-unfolding le
-returns c = refl
+returns c = c.to_le_bytes.ensures ∙ low_bytes 4 c.args.v

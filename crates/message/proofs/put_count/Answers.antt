@@ -4,4 +4,4 @@ use Rattle.message.proofs.put_count.Goals as goal
 
 pub returns : goal.returns
 unfolding le
-returns c = c.put.ensures
+returns c = rw c.to_le_bytes.ensures at c.put.ensures

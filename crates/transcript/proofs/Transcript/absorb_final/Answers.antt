@@ -1,25 +1,16 @@
 -- `transcript::Transcript::absorb_final` meets its contract: the coefficients fit.
-use mathlib.Core.Path.{◌∙◌, ap, sym}
-use mathlib.Core.List.{List}
-use Prim.Native.Nat.{ℕ, ◌≤◌}
-use lib.ListN.{length}
-use lib.Seq.{take_all, length-take-le}
+use mathlib.Core.Path.{◌≡◌, ◌∙◌}
 use native.Mathlib.Omega.{arith}
-use Rattle.sha256.specs.Sha256.{sha256}
-use Rattle.transcript.specs.Transcript as spec
-use Rattle.transcript.proofs.TranscriptLaws.{tagged_finish}
+use lib.ListN.{length, take}
 use borrow.Author.Rules.{rules}
+use Rattle.std.proofs.lemmas.List.{take_min, length-take}
+use Rattle.transcript.proofs.TranscriptLaws.{tagged_finish}
 use Rattle.transcript.proofs.Transcript.absorb_final.Goals as goal
-
-pub returns-then-count-lt64 : goal.returns-then-count-lt64
-returns-then-count-lt64 c =
-    let a = c.args in
-    let h : a.count ≤ length a.coefficients = search rules in
-    c.tagged_numbers-state.ensures ∙ tagged_finish _ _ (search rules) (omega (arith, length-take-le a.count a.coefficients h))
 
 pub returns : goal.returns
 returns c =
     let a = c.args in
-    let h : length a.coefficients ≤ a.count = search rules in
-    c.tagged_numbers-state-2.ensures ∙ tagged_finish _ _ (search rules) (search rules)
-    ∙ ap (λ (l : List ℕ). spec.absorb_final sha256 a.self.state l) (sym (take_all a.count a.coefficients h))
+    let all : length a.coefficients ≡ 64 = search rules in
+    let first : take c.min-count.result a.coefficients ≡ take a.count a.coefficients = rw (c.min-count.ensures, ← all) (take_min a.count a.coefficients) in
+    rw first at c.tagged_numbers-state.ensures
+    ∙ tagged_finish a.self.state (take a.count a.coefficients) (search rules) (omega (arith, length-take a.count a.coefficients))

@@ -10,13 +10,13 @@ head-requires c = omega (arith, c.requires)
 
 pub layers-committed-requires : goal.layers-committed-requires
 unfolding file_length queries_offset
-layers-committed-requires c = (c.requires.0, (omega (arith, c.requires, c.put_numbers.auto), (omega (arith, c.requires), omega (arith, c.requires, c.head.auto))))
+layers-committed-requires c = (c.requires.0, (omega (arith, c.requires, c.put.auto), (omega (arith, c.requires), omega (arith, c.requires, c.head.auto))))
 
 pub finish-finished-requires : goal.finish-finished-requires
 unfolding file_length
 finish-finished-requires c =
     let a = c.args in
-    (c.requires.0, (final_inside a.p c.layers-committed.new.numbers (omega (arith, c.requires, c.put_numbers.auto, c.layers-committed.auto)), omega (arith, c.requires, c.head.auto, c.layers-committed.auto)))
+    (c.requires.0, (final_inside a.p c.layers-committed.new.numbers (omega (arith, c.requires, c.put.auto, c.layers-committed.auto)), omega (arith, c.requires, c.head.auto, c.layers-committed.auto)))
 
 pub returns : goal.returns
 returns c =
@@ -24,4 +24,4 @@ returns c =
     let h = c.requires in
     let l = c.layers-committed.ensures in
     let f = c.finish-finished.ensures in
-    file-left a.p a.context a.coefficients.now a.numbers.now a.bytes.now a.file.now h.0 h.1.0 h.1.1.0 h.1.1.1.0 h.1.1.1.1 c.put_numbers.ensures c.head.ensures c.start.ensures l.state_value l.numbers_after l.bytes_after l.file_after f.state_value f.file_after c.openings.ensures
+    file-left a.p a.context a.coefficients.now a.numbers.now a.bytes.now a.file.now h.0 h.1.0 h.1.1.0 h.1.1.1.0 h.1.1.1.1 c.put.ensures c.head.ensures c.start.ensures l.state_value l.numbers_after l.bytes_after l.file_after f.state_value f.file_after c.openings.ensures
