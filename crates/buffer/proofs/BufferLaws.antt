@@ -9,7 +9,7 @@ use borrow.Author.Tests.{le-leb, lt-leb}
 use borrow.Rule.Slice.PartMut.{put_mid}
 use lib.ListN.{length, take, drop, get_or, set}
 use lib.Seq.{sets, sets-eq, drop-drop, take-suc, length-take-le}
-use Rattle.buffer.specs.Buffer.{put, cleared_to, cleared, Cleared}
+use Rattle.buffer.specs.Buffer.{put}
 
 module _ {A : Type 0} where
   -- A part that fits is stored, and one that does not is not.
@@ -42,7 +42,3 @@ copy_more {d} l s at i e h =
     let long : length (take i s) ≡ i = length-take-le i s (omega arith) in
     rw (e, add-one i, take-suc s i 0 h)
     (ap (λ (k : ℕ). set (sets l at (take i s)) (at + k) (get_or s i 0)) (sym long) ∙ sets-append l (take i s) (get_or s i 0 ∷ []) at)
-
--- Numbers that are cleared become zeros.
-pub cleared_numbers : {new : List ℕ} (old : List ℕ) → Cleared (λ n. n ≡ 0) old new → new ≡ cleared old
-cleared_numbers old (none, is, e) = e ∙ ap (λ (n : ℕ). cleared_to n old) is

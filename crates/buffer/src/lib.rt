@@ -12,12 +12,30 @@ pub fn put<T: Copy>(buffer: &mut [T], at: usize, part: &[T])
     }
 }
 
-// Every element becomes what its type makes of 0. A loop, since `fill` asks that a clone cannot fail, which `Copy` doesn't say.
-pub fn clear<T: Copy + From<u8>>(buffer: &mut [T])
-    ensures { spec.Cleared (T.from_gives 0) buffer.old buffer.new }
+// A number that a buffer can be cleared to.
+pub trait Zero: Copy {
+    ghost ZERO: { Self };
+
+    const ZERO: Self;
+}
+
+impl Zero for u8 {
+    ghost ZERO = { 0 };
+
+    const ZERO: u8 = 0;
+}
+
+impl Zero for u32 {
+    ghost ZERO = { 0 };
+
+    const ZERO: u32 = 0;
+}
+
+// A loop, since `fill` asks that a clone cannot fail, which `Copy` doesn't say.
+pub fn clear<T: Zero>(buffer: &mut [T])
+    ensures { buffer.new ≡ spec.cleared_to T.ZERO buffer.old }
 {
-    let zero = T::from(0);
     for element in buffer.iter_mut() {
-        *element = zero;
+        *element = T::ZERO;
     }
 }

@@ -2,7 +2,6 @@
 use mathlib.Core.Path.{sym, ◌∙◌}
 use native.Mathlib.Omega.{arith}
 use lib.Seq.{length-take-le}
-use Rattle.buffer.proofs.BufferLaws.{cleared_numbers}
 use Rattle.params.specs.Parameters.{file_length}
 use Rattle.params.proofs.ParameterLaws.{from_valid}
 use Rattle.writer.proofs.WrittenLaws.{passed_by, length-small, refused-left, succeeded-left}
@@ -41,7 +40,7 @@ returns-then-number-eq-OPEN c =
     let a = c.args in
     let ok = passed_by a.p a.coefficients.now _ _ _ c.tested-number.ensures c.if-number-eq-OPEN.true in
     let size = from_valid a.p (file_length a.p) ok.parameters c.file_length-length.ensures in
-    let r = succeeded-left a.p a.context a.coefficients.now a.numbers.now a.bytes.now a.output.now c.file.new.numbers c.file.new.bytes c.tested-number.ensures c.if-number-eq-OPEN.true size c.file.ensures c.file.auto.numbers (cleared_numbers _ c.clear.ensures) c.file.auto.bytes (cleared_numbers _ c.clear-then-number-eq-OPEN.ensures) in
+    let r = succeeded-left a.p a.context a.coefficients.now a.numbers.now a.bytes.now a.output.now c.file.new.numbers c.file.new.bytes c.tested-number.ensures c.if-number-eq-OPEN.true size c.file.ensures c.file.auto.numbers c.clear.ensures c.file.auto.bytes c.clear-then-number-eq-OPEN.ensures in
     record { value = r.0; output_after = r.1.0; numbers_after = r.1.1.0; bytes_after = r.1.1.1 }
 
 pub returns : goal.returns
