@@ -40,6 +40,8 @@ EQUALITY = ("Rattle.std.specs.Prelude", "◌≡◌")
 ASSEMBLES = {"replied": "Rattle.reader_model.specs.Model", "outcome": "Rattle.lent_reader.specs.Held"}
 NUMBER = ("Rattle.answer.specs.Refusals", "number_in")  # what tells of a `Result` whether it is refused, and by which refusal
 IF_OK = ("Rattle.std.specs.Prelude", "IfOk")
+BLOCK = re.compile(r"^(?:pub )?(trait|impl) (\w+)[^{}\n]*\{\n(.*?)^\}", re.M | re.S)  # a trait or an impl, with what stands in it
+GHOST_MEMBER = re.compile(r"^    ghost (\w+)(:| =) \{ ([^{}\n]*) \};$", re.M)  # of a trait, what each impl says of its type; of an impl, what it says
 GHOST_FIELD = re.compile(r"^    (?:pub )?ghost (\w+): \{ ([^{}\n]*) \},$", re.M)  # a fact that holds of every value of a struct
 OUTSIDE = set()  # public calls whose result no contract can pin: none
 BY_POWERS_OF_TWO = ["field", "felt", "fold"]  # their code, and what it calls, divides and takes remainders by nothing else (request 2026-03)
@@ -89,11 +91,11 @@ def balanced(text, at, opening, closing):
 
 
 class Call:
-    """A function with its contract."""
+    """A function with its contract. `bounds` are the ghost members that its type parameters have from traits of its file, as `T.ZERO`."""
 
-    def __init__(self, name, public, params, result, requires, ensures, imports):
+    def __init__(self, name, public, params, result, requires, ensures, imports, bounds=()):
         self.name, self.public, self.params, self.result = name, public, params, result
-        self.requires, self.ensures, self.imports = requires, ensures, imports
+        self.requires, self.ensures, self.imports, self.bounds = requires, ensures, imports, set(bounds)
 
 
 def root_of(path):
@@ -129,6 +131,7 @@ def functions(text, crate, module, public_module, where=None):
     """Every function of a source file. What has another form than it knows is a fault of `where`."""
     text = bare(text)
     imports = imports_of(text, "ghost ", where)
+    traits = {name: GHOST_MEMBER.findall(body) for kind, name, body in BLOCK.findall(text) if kind == "trait"}
     stream = tokens(text)
     words = [t for t, _ in stream]
     owners, owner, depth = [], None, 0  # the `impl` that each token stands in
@@ -154,10 +157,12 @@ def functions(text, crate, module, public_module, where=None):
         at = text.index("(", stream[i + 1][1])
         end = balanced(text, at, "(", ")")
         params = text[at + 1 : end - 1]
+        generics = re.findall(r"(\w+): (\w+)(?=[,>])", text[stream[i + 1][1] : at])
+        bounds = [f"{kind}.{member}" for kind, bound in generics for member, _, _ in traits.get(bound, [])]
         clauses = {"requires": [], "ensures": []}
         m = re.compile(r"\s*(?:->\s*([^{}]*?))?\s*(?=\b(?:requires|ensures)\b|\{)").match(text, end)
         result, end = (m.group(1) or "").strip(), m.end()
-        while not text.startswith("{", end):
+        while not text.startswith(("{", ";"), end):
             m = re.compile(r"(requires|ensures)(\*?)(?:\s+\w+)?\s*\{").match(text, end)
             if not m:
                 if where:
@@ -167,7 +172,7 @@ def functions(text, crate, module, public_module, where=None):
             clauses[m.group(1)].append(m.group(2) + " ".join(text[m.end() : close - 1].split()))
             end = close + len(text[close:]) - len(text[close:].lstrip())
         whole = "::".join([crate] + ([module] if module else []) + ([owners[i]] if owners[i] else []) + [name])
-        yield Call(whole, exported or (public and public_module), params, result, clauses["requires"], clauses["ensures"], imports)
+        yield Call(whole, exported or (public and public_module), params, result, clauses["requires"], clauses["ensures"], imports, bounds)
 
 
 def source(crate):
@@ -202,8 +207,11 @@ def check_forms():
             lines = len(re.findall(r"^(?:pub )?mod \w+;$", text, re.M))
             if words.count("mod") != (0 if module else lines):
                 fault(where, "a module that the audit does not read")
-            if words.count("ghost") != len(re.findall(r"^ghost use [^\n]*;$", text, re.M)) + len(GHOST_FIELD.findall(text)):
+            if words.count("ghost") != len(re.findall(r"^ghost use [^\n]*;$", text, re.M)) + len(GHOST_FIELD.findall(text)) + sum(len(GHOST_MEMBER.findall(body)) for _, _, body in BLOCK.findall(text)):
                 fault(where, "an import that the audit cannot read, or a ghost member")
+            for name, body in re.findall(r"^pub trait (\w+)[^{}\n]*\{\n(.*?)^\}", text, re.M | re.S):
+                if "fn" in [t for t, _ in tokens(body)]:
+                    fault(where, f"a public trait with a function: {name}")
             for a, b in zip(words, words[1:]):
                 if a == "pub" and not (b in {"fn", "extern", "mod", "struct", "enum", "const"} or b.isidentifier() and b not in {"use", "type"}):
                     fault(where, f"'pub {b}'")
@@ -408,7 +416,7 @@ def check_meaning(call):
                 fault(call.name, f"'{head}' is a word of contracts, and imported")
             if head in parameters(call) and head + "." in call.imports and token.split(".")[1:2] not in (["now"], ["old"], ["new"]):
                 fault(call.name, f"'{head}' is a parameter, and a module")
-            if token in LANGUAGE or head in known or head in bound or re.fullmatch(r"0x[0-9a-f]+|\d+", token):
+            if token in LANGUAGE or head in known or head in bound or token in call.bounds or re.fullmatch(r"0x[0-9a-f]+|\d+", token):
                 continue
             symbol = not re.match(r"[A-Za-z]", token)
             got = call.imports.get(f"◌{token}◌") or call.imports.get(token) or (call.imports.get(head + ".") or call.imports.get(head) if head else None)
@@ -425,7 +433,7 @@ def check_meaning(call):
 
 
 def check_ghost_fields():
-    """A fact that holds of every value of a struct means what its words say, as a contract does."""
+    """A fact that holds of every value of a struct, and what a trait or an impl says for contracts, mean what their words say, as a contract does."""
     for crate in crates():
         for path, _, _ in source(crate):
             text = bare(path.read_text())
@@ -434,6 +442,9 @@ def check_ghost_fields():
                 fields = ", ".join(f.strip() for f in GHOST_FIELD.sub("", body).replace("pub ", "").split(",") if f.strip())
                 for field, fact in GHOST_FIELD.findall(body):
                     check_meaning(Call(f"{crate}::{name}.{field}", False, fields, "", [], [" ".join(fact.split())], imports))
+            for _, name, body in BLOCK.findall(text):
+                for member, _, said in GHOST_MEMBER.findall(body):
+                    check_meaning(Call(f"{crate}::{name}.{member}", False, "", "", [], [said], imports, ["Self"]))
 
 
 def check_names():
