@@ -37,7 +37,7 @@ fn rest_of_third(times: u64) -> u64
 fn quotient(a: u64) -> u32
     ensures { result ≡ (a + (a / 4 + 715827879 * (a / 8589934592))) / 4294967296 % 4294967296 }
 {
-    (std::num::wrapping_add_u64(a, a / 4 + rest_of_third(a / 8589934592)) / WORD) as u32
+    (a.wrapping_add(a / 4 + rest_of_third(a / 8589934592)) / WORD) as u32
 }
 
 // The remainder of any number, or p more: what is left after p has been taken away as often as the quotient says. It fits in 32 bits, so counting modulo 2^32
@@ -46,8 +46,8 @@ fn reduce_lazily(a: u64) -> u32
     ensures { result % p ≡ a % p }
 {
     let q = quotient(a);
-    let less = std::num::wrapping_sub_u32((a % WORD) as u32, q);
-    std::num::wrapping_add_u32(less, UNIT * (q % 4))
+    let less = ((a % WORD) as u32).wrapping_sub(q);
+    less.wrapping_add(UNIT * (q % 4))
 }
 
 // The remainder of any number, by shifts and small sums: no division but by powers of two.
@@ -57,6 +57,7 @@ pub fn reduce(a: u64) -> u32
     correct(reduce_lazily(a))
 }
 
+#[tactic(auto, unfolding(crate::specs::Modular::add_mod))]
 pub fn add(a: u32, b: u32) -> u32
     ensures { result ≡ add_mod a b }
 {
@@ -66,6 +67,7 @@ pub fn add(a: u32, b: u32) -> u32
     if x < room { x + y } else { x - room }
 }
 
+#[tactic(auto, unfolding(crate::specs::Modular::sub_mod))]
 pub fn sub(a: u32, b: u32) -> u32
     ensures { result ≡ sub_mod a b }
 {
@@ -74,6 +76,7 @@ pub fn sub(a: u32, b: u32) -> u32
     if y <= x { x - y } else { x + (MODULUS - y) }
 }
 
+#[tactic(auto, unfolding(crate::specs::Modular::mul_mod))]
 pub fn mul(a: u32, b: u32) -> u32
     ensures { result ≡ mul_mod a b }
 {
@@ -81,6 +84,7 @@ pub fn mul(a: u32, b: u32) -> u32
 }
 
 // A product and a number, reduced together.
+#[tactic(auto, using(crate::proofs::Reduction::product_and_number))]
 pub fn mul_add(a: u32, b: u32, c: u32) -> u32
     ensures { result ≡ add_mod c (mul_mod a b) }
 {
@@ -88,12 +92,14 @@ pub fn mul_add(a: u32, b: u32, c: u32) -> u32
 }
 
 // A product, not reduced to the end: what products that follow each other pass on.
+#[tactic(auto, unfolding(crate::specs::Modular::mul_mod))]
 fn mul_lazily(a: u32, b: u32) -> u32
     ensures { result % p ≡ mul_mod a b }
 {
     reduce_lazily(a as u64 * b as u64)
 }
 
+#[tactic(auto, unfolding(crate::specs::Modular::neg_mod, crate::specs::Modular::sub_mod))]
 pub fn neg(a: u32) -> u32
     ensures { result ≡ neg_mod a }
 {
@@ -104,6 +110,7 @@ pub fn neg(a: u32) -> u32
 // base and passes back: to the odd rule where the half is odd, else to itself. The exponent falls at each call. What was multiplied so far goes along, so
 // that every call is the last thing its caller does. No product is reduced to the end.
 #[cycle(power_even_power_odd)]
+#[tactic(auto, using(crate::proofs::Laws::power_once))]
 fn power_odd(product: u32, a: u32, e: u32) -> u32
     requires { e % 2 ≡ 1 }
     ensures { result % p ≡ mul_mod product (pow_mod a e) }
@@ -112,6 +119,7 @@ fn power_odd(product: u32, a: u32, e: u32) -> u32
 }
 
 #[cycle(power_even_power_odd)]
+#[tactic(auto, using(crate::proofs::Laws::power_done, crate::proofs::Laws::power_halved))]
 fn power_even(product: u32, a: u32, e: u32) -> u32
     requires { e % 2 ≡ 0 }
     ensures { result % p ≡ mul_mod product (pow_mod a e) }
@@ -128,6 +136,7 @@ fn power_even(product: u32, a: u32, e: u32) -> u32
     }
 }
 
+#[tactic(auto, using(crate::proofs::Laws::power_from_one))]
 pub fn pow(a: u32, e: u32) -> u32
     ensures { result ≡ pow_mod a e }
 {
@@ -139,6 +148,7 @@ pub fn pow(a: u32, e: u32) -> u32
 }
 
 // The inverse of any number that p does not divide, and 0 of a multiple of p.
+#[tactic(auto, unfolding(crate::specs::Modular::inv_mod))]
 pub fn inv(a: u32) -> u32
     ensures { result ≡ inv_mod a }
 {
