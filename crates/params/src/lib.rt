@@ -9,7 +9,7 @@ ghost use Rattle.params.specs.Admission as admission;
 use answer::Refusal;
 
 #[repr(C)]
-#[derive(Clone, Copy)]
+#[derive(Clone, Copy, Debug, PartialEq, Eq)]
 pub struct Params {
     pub n: u8,
     pub b: u8,
@@ -25,7 +25,7 @@ pub struct ValidParams {
 }
 
 // What an opening is asked for: a proof under these parameters, bound to this context. A later argument is a field more here.
-#[derive(Clone, Copy)]
+#[derive(Clone, Copy, Debug, PartialEq, Eq)]
 pub struct Terms {
     pub params: Params,
     pub context: [u8; 32],
@@ -38,6 +38,7 @@ pub const HEADER_SIZE: usize = 4;
 pub const ROOT_COUNT_OFFSET: usize = 2 + HEADER_SIZE;
 
 // The parameter bytes, as section 1, the first hash and a job have them.
+// Stays, as does `from_header`: the interface names them, and a From beside them would do the same twice.
 pub fn header(p: Params) -> [u8; HEADER_SIZE]
     ensures { result ≡ spec.header p }
 {
@@ -48,7 +49,7 @@ pub fn header(p: Params) -> [u8; HEADER_SIZE]
 fn byte_at(bytes: &[u8], i: usize) -> u8
     ensures { result ≡ get_or bytes.now i 0 }
 {
-    if i < bytes.len() { bytes[i] } else { 0 }
+    bytes.get(i).copied().unwrap_or(0)
 }
 
 // The parameters that the bytes at the front are; where there are fewer, zeros.
@@ -62,20 +63,17 @@ pub fn from_header(bytes: &[u8]) -> Params
     Params { n, b, k, q }
 }
 
-fn in_range(low: u8, x: u8, high: u8) -> bool
-    ensures { result ≡ spec.in_range low x high }
-{
-    (low <= x) & (x <= high)
-}
-
+#[tactic(auto, unfolding(crate::specs::Parameters::valid))]
 pub fn is_valid(p: Params) -> bool
     ensures { result ≡ spec.valid p }
 {
     let used = p.b as u32 + p.k as u32;
     let n = p.n as u32;
-    let fits = (used <= n) & (n <= used + 6);
-    in_range(2, p.n, 20)
-        & (in_range(1, p.b, 8) & (in_range(1, p.k, 12) & (in_range(1, p.q, 64) & fits)))
+    (2..=20).contains(&p.n)
+        && (1..=8).contains(&p.b)
+        && (1..=12).contains(&p.k)
+        && (1..=64).contains(&p.q)
+        && (used..=used + 6).contains(&n)
 }
 
 // A caller's parameters, where they are admitted.
@@ -104,10 +102,7 @@ pub fn admission(p: Params) -> u8
 pub fn index_bits(p: Params) -> u8
     ensures { result ≡ spec.index_bits p }
 {
-    if p.n == 0 {
-        return 0;
-    }
-    p.n - 1
+    p.n.saturating_sub(1)
 }
 
 // The number of values in a leaf.
@@ -121,12 +116,7 @@ pub fn values_per_leaf(p: Params) -> usize
 pub fn height(p: Params, layer: u8) -> usize
     ensures { result ≡ spec.height p layer }
 {
-    let n = p.n as usize;
-    let below = layer as usize + 1;
-    if n <= below {
-        return 0;
-    }
-    n - below
+    (p.n as usize).saturating_sub(layer as usize + 1)
 }
 
 // The bytes of a leaf's values.
@@ -144,14 +134,13 @@ pub fn opening_length(p: Params, layer: u8) -> usize
 }
 
 // The bytes of a query's openings in the first layers.
+#[tactic(auto, using(crate::proofs::ParameterLaws::lengths), unfolding(crate::specs::Parameters::query_length))]
 pub fn query_length(p: Params, layers: u8) -> usize
     ensures { result ≡ spec.query_length p 0 layers }
 {
     let mut sum = 0;
-    let mut j = 0;
-    while j < layers {
+    for j in 0..layers {
         sum += opening_length(p, j);
-        j += 1;
     }
     sum
 }
@@ -160,12 +149,7 @@ pub fn query_length(p: Params, layers: u8) -> usize
 pub fn final_count(p: Params) -> usize
     ensures { result ≡ spec.if_valid p (spec.final_count p) }
 {
-    if is_valid(p) {
-        let bits = p.n - p.b - p.k;
-        binary::power_of_two(bits)
-    } else {
-        0
-    }
+    admitted(p).map_or(0, |v| v.final_count())
 }
 
 // Where a layer's root stands; after the last one stands section 3's count.
@@ -179,42 +163,68 @@ pub fn root_offset(layer: u8) -> usize
 pub fn query_count_offset(p: Params) -> usize
     ensures { result ≡ spec.if_valid p (spec.query_count_offset p) }
 {
-    if is_valid(p) {
-        root_offset(p.k) + 2 + 4 * final_count(p)
-    } else {
-        0
-    }
+    admitted(p).map_or(0, |v| v.query_count_offset())
 }
 
 // Where section 4's first opening stands.
 pub fn queries_offset(p: Params) -> usize
     ensures { result ≡ spec.if_valid p (spec.queries_offset p) }
 {
-    if is_valid(p) {
-        query_count_offset(p) + 2
-    } else {
-        0
-    }
+    admitted(p).map_or(0, |v| v.queries_offset())
 }
 
 // Where the opening of a query in a layer stands.
 pub fn opening_offset(p: Params, query: u8, layer: u8) -> usize
     ensures { result ≡ spec.if_valid p (spec.opening_offset p query layer) }
 {
-    if is_valid(p) {
-        queries_offset(p) + query as usize * query_length(p, p.k) + query_length(p, layer)
-    } else {
-        0
-    }
+    admitted(p).map_or(0, |v| v.opening_offset(query, layer))
 }
 
 // The length L of a file.
 pub fn file_length(p: Params) -> usize
     ensures { result ≡ spec.if_valid p (spec.file_length p) }
 {
-    if is_valid(p) {
-        queries_offset(p) + p.q as usize * query_length(p, p.k)
-    } else {
-        0
+    admitted(p).map_or(0, |v| v.file_length())
+}
+
+// The same numbers of parameters that are valid.
+impl ValidParams {
+    #[tactic(auto, using(crate::proofs::ParameterLaws::final_made))]
+    fn final_count(self) -> usize
+        ensures { result ≡ spec.final_count self.params }
+    {
+        let p = self.params;
+        let bits = p.n - p.b - p.k;
+        binary::power_of_two(bits)
+    }
+
+    #[tactic(auto, using(crate::proofs::ParameterLaws::lengths))]
+    fn query_count_offset(self) -> usize
+        ensures { result ≡ spec.query_count_offset self.params }
+    {
+        root_offset(self.params.k) + 2 + 4 * self.final_count()
+    }
+
+    #[tactic(auto, using(crate::proofs::ParameterLaws::lengths), unfolding(crate::specs::Parameters::queries_offset))]
+    fn queries_offset(self) -> usize
+        ensures { result ≡ spec.queries_offset self.params }
+    {
+        self.query_count_offset() + 2
+    }
+
+    #[tactic(auto, using(crate::proofs::ParameterLaws::lengths), unfolding(crate::specs::Parameters::opening_offset))]
+    fn opening_offset(self, query: u8, layer: u8) -> usize
+        ensures { result ≡ spec.opening_offset self.params query layer }
+    {
+        let p = self.params;
+        self.queries_offset() + query as usize * query_length(p, p.k) + query_length(p, layer)
+    }
+
+    #[tactic(auto, using(crate::proofs::ParameterLaws::lengths), unfolding(crate::specs::Parameters::file_length))]
+    fn file_length(self) -> usize
+        ensures { result ≡ spec.file_length self.params }
+    {
+        let p = self.params;
+        self.queries_offset() + p.q as usize * query_length(p, p.k)
     }
 }
