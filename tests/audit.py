@@ -444,6 +444,7 @@ def check_ghost_fields():
                     check_meaning(Call(f"{crate}::{name}.{field}", False, fields, "", [], [" ".join(fact.split())], imports))
             for _, name, body in BLOCK.findall(text):
                 for member, _, said in GHOST_MEMBER.findall(body):
+                    said = re.sub(r"λ ([\w ]+)\.", lambda m: " ".join(f"λ {x}." for x in m.group(1).split()), said)
                     check_meaning(Call(f"{crate}::{name}.{member}", False, "", "", [], [said], imports, ["Self"]))
 
 

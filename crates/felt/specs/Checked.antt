@@ -1,7 +1,10 @@
 -- The answers of the checked calls (document 01, "The field" and "When the reader says no"): 22 where an argument is not below p, 15 for the
 -- inverse of 0, else 0; the place is always 0, and the value beside a refusal is 0.
-use Rattle.std.specs.Prelude.{cond, ℕ, ltb, eqb}
+use Rattle.std.specs.Prelude.{cond, ℕ, ltb, eqb, Ok, Err}
+use Rattle.std.specs.Prelude as prelude
 use Rattle.answer.specs.Table.{answered, open_so_far, not_below_modulus, inverse_of_zero}
+use Rattle.answer.specs.declared.Refusal.{Refusal}
+use Rattle.answer.specs.Refusals.{number_of}
 use Rattle.felt.specs.declared.FieldAnswer.{FieldAnswer}
 use Rattle.field.specs.Modular.{p, add_mod, sub_mod, mul_mod, neg_mod, pow_mod, inv_mod}
 
@@ -10,6 +13,11 @@ refusal number = record { answer = answered number 0; value = record { value = 0
 
 abbrev pub success : ℕ → FieldAnswer
 success v = record { answer = answered open_so_far 0; value = record { value = v } }
+
+-- the answer that tells of a value or a refusal
+abbrev pub told : prelude.Result ℕ Refusal → FieldAnswer
+told (Ok v) = success v
+told (Err r) = refusal (number_of r)
 
 -- the answer where a is a field number, else 22
 unfoldable pub checked : ℕ → FieldAnswer → FieldAnswer

@@ -1,2 +1,3 @@
 -- What the contracts of `felt` cite: the answers of the checked calls.
 pub mod Checked
+pub mod Private

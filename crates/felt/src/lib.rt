@@ -4,20 +4,22 @@
 
 ghost use Rattle.std.specs.Prelude.{◌≡◌};
 ghost use Rattle.field.specs.Modular.{p, generator, subgroup_generator};
-ghost use Rattle.felt.specs.Checked.{refusal, success, checked, sum_answer, difference_answer, product_answer, negation_answer, power_answer, inverse_answer};
+ghost use Rattle.felt.specs.Private.{judged, judged_both};
+ghost use Rattle.felt.specs.Checked.{told, sum_answer, difference_answer, product_answer, negation_answer, power_answer, inverse_answer};
 
-use answer::Answer;
+use answer::{Answer, Refusal};
 
 // A field number. It is valid where its value is below the modulus.
 #[repr(C)]
-#[derive(Clone, Copy)]
+#[derive(Clone, Copy, Debug, PartialEq, Eq)]
 pub struct Felt {
     pub value: u32,
 }
 
 // A checked call's answer, and its value beside it: 0 beside a refusal.
+// Stays: programs in C read it, and the calls that give it are named as they are.
 #[repr(C)]
-#[derive(Clone, Copy)]
+#[derive(Clone, Copy, Debug, PartialEq, Eq)]
 pub struct FieldAnswer {
     pub answer: Answer,
     pub value: Felt,
@@ -35,53 +37,26 @@ const SUBGROUP_GENERATORS: [u32; 31] = [
 pub fn subgroup_generator(t: usize) -> u32
     ensures { result ≡ subgroup_generator t }
 {
-    if t < 30 {
-        SUBGROUP_GENERATORS[t]
-    } else {
-        SUBGROUP_GENERATORS[30]
-    }
+    SUBGROUP_GENERATORS[t.min(30)]
 }
 
-fn refused(number: u8) -> FieldAnswer
-    ensures { result ≡ refusal number }
-{
-    FieldAnswer {
-        answer: Answer { number, place: 0 },
-        value: Felt::ZERO,
-    }
-}
+impl From<Result<u32, Refusal>> for FieldAnswer {
+    ghost from_gives = { λ outcome answer. answer ≡ told outcome };
 
-fn found(value: u32) -> FieldAnswer
-    ensures { result ≡ success value }
-{
-    FieldAnswer {
-        answer: Answer {
-            number: answer::OPEN,
-            place: 0,
-        },
-        value: Felt { value },
-    }
-}
-
-// The value beside the answer of a call with one argument: 22 where that is not below p.
-fn judged(a: u32, value: u32) -> FieldAnswer
-    ensures { result ≡ checked a (success value) }
-{
-    if a < Felt::MODULUS {
-        found(value)
-    } else {
-        refused(answer::NOT_BELOW_MODULUS)
-    }
-}
-
-// The same for two arguments.
-fn judged_both(a: u32, b: u32, value: u32) -> FieldAnswer
-    ensures { result ≡ checked a (checked b (success value)) }
-{
-    if a < Felt::MODULUS {
-        judged(b, value)
-    } else {
-        refused(answer::NOT_BELOW_MODULUS)
+    fn from(outcome: Result<u32, Refusal>) -> FieldAnswer {
+        match outcome {
+            Ok(value) => FieldAnswer {
+                answer: Answer {
+                    number: answer::OPEN,
+                    place: 0,
+                },
+                value: Felt { value },
+            },
+            Err(refusal) => FieldAnswer {
+                answer: refusal.at(0),
+                value: Felt::ZERO,
+            },
+        }
     }
 }
 
@@ -119,48 +94,65 @@ impl Felt {
         Felt::GENERATOR
     }
 
+    // The number, where it is below p.
+    fn checked(self) -> Result<u32, Refusal>
+        ensures { result ≡ judged self.value }
+    {
+        if self.value < Felt::MODULUS {
+            Ok(self.value)
+        } else {
+            Err(Refusal::NotBelowModulus)
+        }
+    }
+
+    // Two numbers, where both are; the first is judged first.
+    fn both(self, other: Felt) -> Result<(u32, u32), Refusal>
+        ensures { result ≡ judged_both self.value other.value }
+    {
+        Ok((self.checked()?, other.checked()?))
+    }
+
     pub fn sum(self, other: Felt) -> FieldAnswer
         ensures { result ≡ sum_answer self.value other.value }
     {
-        let sum = field::add(self.value, other.value);
-        judged_both(self.value, other.value, sum)
+        FieldAnswer::from(self.both(other).map(|(a, b)| field::add(a, b)))
     }
 
     pub fn difference(self, other: Felt) -> FieldAnswer
         ensures { result ≡ difference_answer self.value other.value }
     {
-        let difference = field::sub(self.value, other.value);
-        judged_both(self.value, other.value, difference)
+        FieldAnswer::from(self.both(other).map(|(a, b)| field::sub(a, b)))
     }
 
     pub fn product(self, other: Felt) -> FieldAnswer
         ensures { result ≡ product_answer self.value other.value }
     {
-        let product = field::mul(self.value, other.value);
-        judged_both(self.value, other.value, product)
+        FieldAnswer::from(self.both(other).map(|(a, b)| field::mul(a, b)))
     }
 
     pub fn negation(self) -> FieldAnswer
         ensures { result ≡ negation_answer self.value }
     {
-        let opposite = field::neg(self.value);
-        judged(self.value, opposite)
+        FieldAnswer::from(self.checked().map(|a| field::neg(a)))
     }
 
     pub fn power(self, e: u32) -> FieldAnswer
         ensures { result ≡ power_answer self.value e }
     {
-        let raised = field::pow(self.value, e);
-        judged(self.value, raised)
+        FieldAnswer::from(self.checked().map(|a| field::pow(a, e)))
     }
 
     pub fn inverse(self) -> FieldAnswer
         ensures { result ≡ inverse_answer self.value }
     {
-        if self.value == 0 {
-            return refused(answer::INVERSE_OF_ZERO);
-        }
-        let inverse = field::inv(self.value);
-        judged(self.value, inverse)
+        FieldAnswer::from(
+            self.checked().and_then(|a| {
+                if a == 0 {
+                    Err(Refusal::InverseOfZero)
+                } else {
+                    Ok(field::inv(a))
+                }
+            }),
+        )
     }
 }

@@ -6,7 +6,6 @@ use Prim.Native.Nat.{ℕ, ◌-◌}
 use native.Mathlib.Omega.{arith}
 use lib.Dec.{eqb, eqb→eq}
 use lib.ListN.{get_or}
-use borrow.Author.Rules.{rules}
 use Rattle.field.specs.Modular.{mul_mod}
 use Rattle.field.proofs.Squares.{squares}
 use Rattle.field.proofs.Subgroup.{subgroup_squares}
@@ -23,15 +22,12 @@ entries =
 right : ℕ → ℕ → Bool
 right t x = eqb x (squares (30 - t) 125)
 
-pub returns-then-t-lt30 : goal.returns-then-t-lt30
+pub returns : goal.returns
 unfolding entries right squares mul_mod
-returns-then-t-lt30 c =
+returns c =
     let t = c.args.t in
-    eqb→eq (get_or entries t 0) (squares (30 - t) 125) (rule_at right entries tt t (search rules)) ∙ sym (subgroup_squares t)
-
-pub returns-else-t-lt30 : goal.returns-else-t-lt30
-unfolding squares
-returns-else-t-lt30 c =
-    let t = c.args.t in
-    let none : 30 - t ≡ 0 = omega arith in
-    sym (subgroup_squares t ∙ ap (λ (n : ℕ). squares n 125) none)
+    let i = c.min.result in
+    let same : 30 - i ≡ 30 - t = omega arith in
+    eqb→eq (get_or entries i 0) (squares (30 - i) 125) (rule_at right entries tt i (omega arith))
+    ∙ ap (λ (n : ℕ). squares n 125) same
+    ∙ sym (subgroup_squares t)

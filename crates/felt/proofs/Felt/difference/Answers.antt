@@ -1,8 +1,9 @@
--- `Felt::difference` meets its contract: the value of `sub`, once the arguments are judged.
-use Rattle.felt.proofs.CheckedLaws.{judged_both_value}
+-- `Felt::difference` meets its contract.
+use Rattle.std.proofs.Common.{◌∙◌, rules}
+use Rattle.felt.proofs.CheckedLaws.{two, mapped}
 use Rattle.felt.specs.Checked.{difference_answer}
 use Rattle.felt.proofs.Felt.difference.Goals as goal
 
 pub returns : goal.returns
 unfolding difference_answer
-returns c = judged_both_value _ _ c.sub-difference.ensures c.judged_both.ensures
+returns c = c.from.ensures ∙ two _ _ c.map.result c.both.ensures c.map.ensures.cases (λ v e f q. mapped c.map.result q (λ y h. search rules))

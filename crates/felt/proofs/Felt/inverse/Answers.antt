@@ -1,10 +1,11 @@
--- `Felt::inverse` meets its contract: 15 for 0, which is below p; else the value of `inv`, once the argument is judged.
-use mathlib.Core.Path.{sym, ◌∙◌}
-use Rattle.felt.proofs.CheckedLaws.{inverse_zero, inverse_other}
+-- `Felt::inverse` meets its contract.
+use Rattle.std.proofs.Common.{◌∙◌, arith}
+use Rattle.std.proofs.lemmas.Grind.{common_steps}
+use Rattle.std.proofs.lemmas.Bool.Decides.{nat_tests}
+use Rattle.felt.proofs.CheckedLaws.{one}
+use Rattle.felt.specs.Checked.{inverse_answer}
 use Rattle.felt.proofs.Felt.inverse.Goals as goal
 
-pub returns-then-self-eq0 : goal.returns-then-self-eq0
-returns-then-self-eq0 c = c.refused.ensures ∙ sym (inverse_zero _ c.if-self-eq0.true)
-
 pub returns : goal.returns
-returns c = inverse_other c.if-self-eq0.false c.inv-inverse.ensures c.judged.ensures
+unfolding inverse_answer
+returns c = c.from.ensures ∙ one _ c.and_then.result c.checked.ensures c.and_then.ensures (λ v e q. grind (arith, common_steps, nat_tests))

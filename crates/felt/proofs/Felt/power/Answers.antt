@@ -1,8 +1,9 @@
--- `Felt::power` meets its contract: the value of `pow`, once the arguments are judged.
-use Rattle.felt.proofs.CheckedLaws.{judged_value}
+-- `Felt::power` meets its contract.
+use Rattle.std.proofs.Common.{◌∙◌, rules}
+use Rattle.felt.proofs.CheckedLaws.{one, mapped}
 use Rattle.felt.specs.Checked.{power_answer}
 use Rattle.felt.proofs.Felt.power.Goals as goal
 
 pub returns : goal.returns
 unfolding power_answer
-returns c = judged_value _ c.pow-raised.ensures c.judged.ensures
+returns c = c.from.ensures ∙ one _ c.map.result c.checked.ensures c.map.ensures.cases (λ v e q. mapped c.map.result q (λ y h. search rules))

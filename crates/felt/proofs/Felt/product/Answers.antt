@@ -1,8 +1,9 @@
--- `Felt::product` meets its contract: the value of `mul`, once the arguments are judged.
-use Rattle.felt.proofs.CheckedLaws.{judged_both_value}
+-- `Felt::product` meets its contract.
+use Rattle.std.proofs.Common.{◌∙◌, rules}
+use Rattle.felt.proofs.CheckedLaws.{two, mapped}
 use Rattle.felt.specs.Checked.{product_answer}
 use Rattle.felt.proofs.Felt.product.Goals as goal
 
 pub returns : goal.returns
 unfolding product_answer
-returns c = judged_both_value _ _ c.mul-product.ensures c.judged_both.ensures
+returns c = c.from.ensures ∙ two _ _ c.map.result c.both.ensures c.map.ensures.cases (λ v e f q. mapped c.map.result q (λ y h. search rules))

@@ -1,8 +1,9 @@
--- `Felt::sum` meets its contract: the value of `add`, once the arguments are judged.
-use Rattle.felt.proofs.CheckedLaws.{judged_both_value}
+-- `Felt::sum` meets its contract.
+use Rattle.std.proofs.Common.{◌∙◌, rules}
+use Rattle.felt.proofs.CheckedLaws.{two, mapped}
 use Rattle.felt.specs.Checked.{sum_answer}
 use Rattle.felt.proofs.Felt.sum.Goals as goal
 
 pub returns : goal.returns
 unfolding sum_answer
-returns c = judged_both_value _ _ c.add-sum.ensures c.judged_both.ensures
+returns c = c.from.ensures ∙ two _ _ c.map.result c.both.ensures c.map.ensures.cases (λ v e f q. mapped c.map.result q (λ y h. search rules))
