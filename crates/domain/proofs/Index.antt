@@ -1,7 +1,7 @@
 -- Indices in a layer. The index of layer j is m mod 2^(n−1−j), where m is the drawn leaf, the index of layer 0. Assumes nothing.
 use Prim.Native.Nat.{ℕ, suc, ◌+◌, ◌^◌, ◌%◌, ◌-◌, ◌<◌, ◌≤◌}
-use mathlib.Core.Path.{◌≡◌, ap, sym, ◌∙◌}
-use native.Mathlib.Nat.{pow-suc, pow-zero, mod-eq_of_lt, mod-lt, mod-one, mod-eq-sub-mod}
+use mathlib.Core.Path.{◌≡◌, ap, ◌∙◌}
+use native.Mathlib.Nat.{pow-suc, mod-eq_of_lt, mod-lt, mod-eq-sub-mod}
 use native.Mathlib.Omega.{arith}
 use lib.Pow.{pow_pos, mod-mod-pow}
 use Rattle.domain.specs.Domain.{half}
@@ -31,14 +31,3 @@ pub wrap : (m h : ℕ) → h ≤ m → m < h + h → m % h + h ≡ m
 wrap m h l k =
     let low : m - h < h = omega arith in
     rw (mod-eq-sub-mod l, mod-eq_of_lt low) (omega arith)
-
--- The leaf as code has it: a layer that is none has one leaf, any other 2^(n−j−1).
-pub leaf_none : (n j i : ℕ) → n ≤ j → 0 ≡ i % half n j
-unfolding half
-leaf_none n j i h =
-    let none : n - suc j ≡ 0 = omega arith in
-    sym (rw (none, pow-zero 2) (mod-one i))
-
-pub leaf_made : {r : ℕ} (n j i : ℕ) → r ≡ i % 2 ^ (n - j - 1) → r ≡ i % half n j
-unfolding half
-leaf_made n j i made = made ∙ ap (λ e. i % 2 ^ e) (omega arith)
