@@ -1,11 +1,14 @@
-use Prim.Native.Nat.{◌≤◌}
-use mathlib.Core.Path.{◌≡◌}
-use lib.ListN.{take, drop}
+-- The value is that of the coefficients above the rest.
+use Rattle.std.proofs.Common.{◌≡◌, ◌≤◌, length, take, drop}
 use Rattle.fold.specs.Poly.{eval}
 use Rattle.fold.proofs.horner.Given as goal
 
-abbrev pub invariant-loop-i : goal.invariant-loop-i
-invariant-loop-i l = (l.i ≤ l.count) × (l.value ≡ eval (drop l.i (take l.count l.numbers)) l.x)
+abbrev pub invariant-loop-rest : goal.invariant-loop-rest
+invariant-loop-rest l = record {
+  in_range : length l.rest ≤ length l.coefficients;
+  front : l.rest ≡ take (length l.rest) l.coefficients;
+  value : l.value ≡ eval (drop (length l.rest) l.coefficients) l.x;
+}
 
-abbrev pub decreases-loop-i : goal.decreases-loop-i
-decreases-loop-i l = l.i
+abbrev pub decreases-loop-rest : goal.decreases-loop-rest
+decreases-loop-rest l = length l.rest
