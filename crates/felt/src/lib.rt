@@ -112,6 +112,7 @@ impl Felt {
         Ok((self.checked()?, other.checked()?))
     }
 
+    // Stays beside the two calls below: the interface names the three, and what they share is `both` and From.
     pub fn sum(self, other: Felt) -> FieldAnswer
         ensures { result ≡ sum_answer self.value other.value }
     {

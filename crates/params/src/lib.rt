@@ -146,6 +146,7 @@ pub fn query_length(p: Params, layers: u8) -> usize
 }
 
 // The number F of final coefficients.
+// Stays, as do the four like it: the interface names each with these arguments, and what they share is `admitted`.
 pub fn final_count(p: Params) -> usize
     ensures { result ≡ spec.if_valid p (spec.final_count p) }
 {
