@@ -3,7 +3,8 @@
 use Rattle.std.proofs.Common.{◌≡◌, ℕ, zero, suc, ◌+◌, ◌-◌, ◌*◌, ◌/◌, ◌%◌, ◌^◌, ◌<◌, sym, refl, ap, ◌∙◌, add_assoc, mod-lt, mod-eq_of_lt, zero-lt-suc, mul_assoc, mul_comm, one-mul, pow-suc, zero-mul, mul-add, arith, pow-add}
 use native.Mathlib.Nat.{mod-mod, mod-add-mod, add-mod-mod, pow-zero}
 use Rattle.field.specs.Modular.{p, add_mod, sub_mod, mul_mod, neg_mod, pow_mod}
-use Rattle.field.proofs.Remainder.{mod_mul, mul_mod_lem, pow_mod_lem, pow_mul, mul_pow, one_pow}
+use Rattle.std.proofs.lemmas.Nat.{mul-mod_first, mul-mod_second, pow-mod, mul-pow}
+use Rattle.field.proofs.Powers.{pow_mul, one_pow}
 
 -- every result is below p
 
@@ -27,11 +28,11 @@ pow_mod_lt a e = mod-lt (a ^ e) (zero-lt-suc 3221225472)
 
 pub mul_mod_reduce : (a b : ℕ) → mul_mod (a % p) b ≡ mul_mod a b
 unfolding mul_mod
-mul_mod_reduce a b = mod_mul a b p
+mul_mod_reduce a b = mul-mod_first a b p
 
 pub pow_mod_reduce : (a e : ℕ) → pow_mod (a % p) e ≡ pow_mod a e
 unfolding pow_mod
-pow_mod_reduce a e = pow_mod_lem a e p
+pow_mod_reduce a e = pow-mod a e p
 
 pub neg_mod_reduce : (a : ℕ) → neg_mod (a % p) ≡ neg_mod a
 unfolding neg_mod
@@ -72,7 +73,7 @@ mul_mod_comm a b = ap (λ (x : ℕ). x % p) (mul_comm a b)
 
 pub mul_mod_assoc : (a b c : ℕ) → mul_mod (mul_mod a b) c ≡ mul_mod a (mul_mod b c)
 unfolding mul_mod
-mul_mod_assoc a b c = simp (mod_mul, mul_mod_lem, mul_assoc)
+mul_mod_assoc a b c = simp (mul-mod_first, mul-mod_second, mul_assoc)
 
 pub mul_mod-one : (a : ℕ) → mul_mod 1 a ≡ a % p
 unfolding mul_mod
@@ -88,7 +89,7 @@ mul_mod_two a = omega arith
 
 pub mul_mod-add_mod : (a b c : ℕ) → mul_mod a (add_mod b c) ≡ add_mod (mul_mod a b) (mul_mod a c)
 unfolding add_mod mul_mod
-mul_mod-add_mod a b c = simp (mul_mod_lem, mod-add-mod, add-mod-mod, mul-add)
+mul_mod-add_mod a b c = simp (mul-mod_second, mod-add-mod, add-mod-mod, mul-add)
 
 pub mul_mod-neg_mod : (a b : ℕ) → mul_mod a (neg_mod b) ≡ neg_mod (mul_mod a b)
 mul_mod-neg_mod a b =
@@ -119,23 +120,23 @@ pow_mod_zero a = simp pow-zero
 
 pub pow_mod_suc : (a e : ℕ) → pow_mod a (suc e) ≡ mul_mod a (pow_mod a e)
 unfolding mul_mod pow_mod
-pow_mod_suc a e = ap (λ (x : ℕ). x % p) (pow-suc a e ∙ mul_comm (a ^ e) a) ∙ sym (mul_mod_lem a (a ^ e) p)
+pow_mod_suc a e = ap (λ (x : ℕ). x % p) (pow-suc a e ∙ mul_comm (a ^ e) a) ∙ sym (mul-mod_second a (a ^ e) p)
 
 pub pow_mod-one : (a : ℕ) → pow_mod a 1 ≡ a % p
 pow_mod-one a = pow_mod_suc a 0 ∙ ap (mul_mod a) (pow_mod_zero a) ∙ mul_mod_comm a 1 ∙ mul_mod-one a
 
 pub pow_mod_add : (a e f : ℕ) → pow_mod a (e + f) ≡ mul_mod (pow_mod a e) (pow_mod a f)
 unfolding mul_mod pow_mod
-pow_mod_add a e f = ap (λ (x : ℕ). x % p) (pow-add a e f) ∙ sym (mod_mul (a ^ e) (a ^ f % p) p ∙ mul_mod_lem (a ^ e) (a ^ f) p)
+pow_mod_add a e f = ap (λ (x : ℕ). x % p) (pow-add a e f) ∙ sym (mul-mod_first (a ^ e) (a ^ f % p) p ∙ mul-mod_second (a ^ e) (a ^ f) p)
 
 pub pow_mod_mul : (a e f : ℕ) → pow_mod a (e * f) ≡ pow_mod (pow_mod a e) f
 unfolding pow_mod
-pow_mod_mul a e f = ap (λ (x : ℕ). x % p) (pow_mul a e f) ∙ sym (pow_mod_lem (a ^ e) f p)
+pow_mod_mul a e f = ap (λ (x : ℕ). x % p) (pow_mul a e f) ∙ sym (pow-mod (a ^ e) f p)
 
 pub pow_mod-mul_mod : (a b e : ℕ) → pow_mod (mul_mod a b) e ≡ mul_mod (pow_mod a e) (pow_mod b e)
 unfolding mul_mod pow_mod
 pow_mod-mul_mod a b e =
-    pow_mod_lem (a * b) e p ∙ ap (λ (x : ℕ). x % p) (mul_pow a b e) ∙ sym (mod_mul (a ^ e) (b ^ e % p) p ∙ mul_mod_lem (a ^ e) (b ^ e) p)
+    pow-mod (a * b) e p ∙ ap (λ (x : ℕ). x % p) (mul-pow a b e) ∙ sym (mul-mod_first (a ^ e) (b ^ e % p) p ∙ mul-mod_second (a ^ e) (b ^ e) p)
 
 pub pow_mod_of_one : (e : ℕ) → pow_mod 1 e ≡ 1
 unfolding pow_mod

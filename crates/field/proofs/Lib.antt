@@ -1,5 +1,5 @@
 -- The laws of the field. Other crates cite `Laws`, `Inverse` and `Subgroup`.
-pub mod Remainder
+pub mod Powers
 pub mod Reduction
 pub mod Laws
 pub mod Squares

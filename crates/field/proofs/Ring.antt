@@ -4,7 +4,7 @@
 use Rattle.std.proofs.Common.{◌≡◌, ℕ, ◌+◌, ◌*◌, ◌%◌, ◌<◌, sym, refl, ap, ◌∙◌, mod-eq_of_lt}
 use native.Mathlib.Nat.{mod-mod, mod-add-mod, add-mod-mod, add-mul-mod_self_left}
 use Rattle.field.specs.Modular.{p, add_mod, sub_mod, mul_mod, neg_mod}
-use Rattle.field.proofs.Remainder.{mod_mul, mul_mod_lem}
+use Rattle.std.proofs.lemmas.Nat.{mul-mod_first, mul-mod_second}
 use Rattle.field.proofs.Laws.{mul_mod_minus_one, sub_mod_neg}
 
 infixl 60 ◌⊕◌
@@ -38,8 +38,8 @@ sum_same a b c d e f =
 
 product_same : (a b c d : ℕ) → a % p ≡ c % p → b % p ≡ d % p → a * b % p ≡ c * d % p
 product_same a b c d e f =
-    sym (mod_mul a b p) ∙ ap (λ (x : ℕ). x * b % p) e ∙ mod_mul c b p ∙ sym (mul_mod_lem c b p)
-    ∙ ap (λ (x : ℕ). c * x % p) f ∙ mul_mod_lem c d p
+    sym (mul-mod_first a b p) ∙ ap (λ (x : ℕ). x * b % p) e ∙ mul-mod_first c b p ∙ sym (mul-mod_second c b p)
+    ∙ ap (λ (x : ℕ). c * x % p) f ∙ mul-mod_second c d p
 
 add_mod_mod : (a b : ℕ) → add_mod a b % p ≡ (a + b) % p
 unfolding add_mod
