@@ -46,6 +46,7 @@ GHOST_FIELD = re.compile(r"^    (?:pub )?ghost (\w+): \{ ([^{}\n]*) \},$", re.M)
 OUTSIDE = set()  # public calls whose result no contract can pin: none
 BY_POWERS_OF_TWO = ["field", "felt", "fold"]  # their code, and what it calls, divides and takes remainders by nothing else (request 2026-03)
 WRAPPING = re.compile(r"wrapping_(add|sub)_u(8|16|32|64)")  # what that code may call of std::num
+METHODS = set("len min map and_then wrapping_add wrapping_sub".split())  # and of the library's methods: none of these divides
 # crates of one part: what may name them. Their functions are no interface for others, and may require what their callers have tested.
 WITHIN = {"reader_items": {"reader_queries", "reader_pieces", "reader"}, "reader_queries": {"reader_pieces"}, "reader_pieces": {"reader"}, "writer_layers": {"writer"}}
 TESTS_ONLY = {"test_exports"}  # passes calls on to the comparisons; no interface for users
@@ -508,8 +509,9 @@ def without_contracts(text):
 
 def check_divisions():
     """Every divisor in these crates, and in those that they call, is a numeral, or a constant of the file, that is a power of two; a divisor in
-    brackets is none."""
+    brackets is none. Of the library they call only what is known not to divide."""
     every, reached = set(crates()), list(BY_POWERS_OF_TWO)
+    own, methods = set(), []
     for crate in reached:
         for path, _, _ in source(crate):
             where = path.relative_to(ROOT)
@@ -519,6 +521,8 @@ def check_divisions():
                     reached.append(called)
                 elif called not in every and called not in {"std", "crate", "self", *(m for _, m, _ in source(crate))}:
                     fault(where, f"calls {called}, which the audit does not read")
+            own.update(re.findall(r"\bfn (\w+)", code))
+            methods += [(where, name) for name in re.findall(r"\. *(\w+) *(?:\(|::)", code)]
             for module, name in re.findall(r"\bstd::(\w+)(?:::(\w+))?", code):
                 if module != "num" or not WRAPPING.fullmatch(name):
                     fault(where, f"calls std::{module}::{name}")
@@ -530,6 +534,9 @@ def check_divisions():
                 bound = re.search(rf"\blet (?:mut )?{divisor}\b|\b{divisor} *: *(?!\w+ *=)\w+ *[,)]", code) if divisor in constants else None
                 if not number.isdecimal() or int(number).bit_count() != 1 or bound:
                     fault(where, f"divides by {divisor}, not by a power of two")
+    for where, name in methods:
+        if name not in own | METHODS:
+            fault(where, f"calls the method {name}, which the audit does not read")
 
 
 @cache

@@ -99,6 +99,7 @@ CASES = [
     ("field/src/lib.rt: divides by (, not by a power of two", (FIELD, "    correct(reduce_lazily(a))\n", "    (a % (WORD)) as u32\n")),
     ("answer/src/lib.rt: divides by 3221225473, not by a power of two", (FIELD, "    correct(reduce_lazily(a))\n", "    answer::rest(a)\n"), ("crates/answer/src/lib.rt", "pub struct Answer {", "fn rest(a: u64) -> u32 {\n    (a % 3221225473) as u32\n}\n\npub struct Answer {")),
     ("field/src/lib.rt: divides by WORD, not by a power of two", (FIELD, "    correct(reduce_lazily(a))\n", "    let WORD: u64 = 3221225473;\n    (a % WORD) as u32\n")),
+    ("field/src/lib.rt: calls the method rem_euclid, which the audit does not read", (FIELD, "    correct(reduce_lazily(a))\n", "    a.rem_euclid(3221225473) as u32\n")),
     ("field/src/lib.rt: calls libc, which the audit does not read", (FIELD, "    correct(reduce_lazily(a))\n", "    libc::rest(a)\n")),
     # edits and papers
     ("docs/THEOREMS.md: is not what the proofs say", ("crates/demands/proofs/Meets.antt", "pub meets : Readers a", "pub meets : (b : Terms) → Readers b")),
