@@ -1,22 +1,23 @@
 -- Turns of the loops: a layer's values one point after another, and a fold that is written over the coefficients it has read.
 -- Assumes nothing.
 use Prim.Native.Nat.{ℕ, zero, suc, ◌+◌, ◌-◌, ◌*◌, ◌/◌, ◌%◌, ◌^◌, ◌≤◌, ◌<◌}
-use mathlib.Core.List.{List, [], ◌∷◌, ◌++◌, append_assoc, append-nil}
+use mathlib.Core.List.{List, [], ◌∷◌, ◌++◌}
 use mathlib.Core.Path.{◌≡◌, refl, sym, ap, ap₂, ◌∙◌}
-use native.Mathlib.Nat.{add-mul, add-zero, mul_assoc, one-mul}
+use native.Mathlib.Nat.{add-mul, mul_assoc, one-mul}
 use native.Mathlib.Numerals.{add-one}
 use native.Mathlib.Omega.{arith}
-use borrow.Author.Tests.{eq-eqb, le-leb, lt-leb, ne_eqb}
-use lib.ListN.{length, take, drop, get_or, set, drop_of_length-le, length-append, take-append-drop}
+use borrow.Author.Tests.{eq-eqb, le-leb, ne_eqb}
+use lib.ListN.{length, take, drop, get_or, set}
 use lib.Pow.{pow-add}
-use lib.Seq.{append_snoc, drop-cons, get_or-append-add, get_or-drop, length-take-le, set_at, take_all, take-append-le, take-take}
+use Rattle.std.proofs.lemmas.List.{take_more_set}
+use lib.Seq.{append_snoc, drop-cons, get_or-append-add, get_or-drop, length-take-le, set_at, take_all, take-take}
 use Rattle.binary.proofs.BinaryLaws.{power_made}
 use Rattle.domain.specs.Domain.{point}
 use Rattle.field.proofs.Laws.{mul_mod_assoc, pow_mod_add, pow_mod_mul}
 use Rattle.field.specs.Modular.{add_mod, mul_mod, pow_mod, generator, subgroup_generator}
 use Rattle.fold.specs.Poly.{eval, fold}
 use Rattle.fold.proofs.FoldCheck.{fold-length}
-use Rattle.message.proofs.Tabulate.{tabulate-length, tabulate_snoc}
+use Rattle.message.proofs.Tabulate.{tabulate_snoc}
 use Rattle.message.specs.Lists.{tabulate}
 use Rattle.polynomial.specs.Polynomial.{layer_size, values, is_room, evaluated, folded_in_place}
 
@@ -45,58 +46,31 @@ point-next {x} {r} n j i h k e f =
     (mul_mod_assoc (pow_mod generator (2 ^ j)) (pow_mod (subgroup_generator n) (i * 2 ^ j)) (pow_mod (subgroup_generator n) (2 ^ j))
     ∙ ap (mul_mod (pow_mod generator (2 ^ j))) (sym (pow_mod_add (subgroup_generator n) (i * 2 ^ j) (2 ^ j)) ∙ ap (pow_mod (subgroup_generator n)) more))
 
--- The room with the values at the first i points from index s on.
-pub stored : List ℕ → ℕ → ℕ → ℕ → ℕ → ℕ → List ℕ
-stored l n j c s i = take s l ++ (tabulate i (λ k. eval (take c l) (point n j k)) ++ drop (s + i) l)
+-- The values at the first i points of a layer.
+pub first_values : ℕ → ℕ → ℕ → List ℕ → List ℕ
+first_values n j i f = tabulate i (λ k. eval f (point n j k))
 
--- A loop that stores the values one by one: its start, a turn, its end. It reads only the front, which stays.
-module _ (l : List ℕ) (n j c s : ℕ) where
-  pub values-start : l ≡ stored l n j c s 0
-  unfolding stored tabulate
-  values-start = rw add-zero (sym (take-append-drop s l))
+-- A loop that stores the values one by one behind the front of the room, which it reads: its start, a turn, its end.
+module _ (room : List ℕ) (n j c s : ℕ) where
+  pub values-start : [] ≡ first_values n j 0 (take c room)
+  unfolding first_values tabulate
+  values-start = refl
 
-  front : {d : List ℕ} (i : ℕ) → c ≤ s → s ≤ length l → d ≡ stored l n j c s i → take c d ≡ take c l
-  unfolding stored
-  front i h k e = ap (take c) e ∙ take-append-le c (take s l) _ (omega (arith, length-take-le s l k)) ∙ take-take c s l h
+  pub values_turn : {x v : ℕ} {front : List ℕ} (made : List ℕ) (i : ℕ) → c ≤ s → front ≡ take s room → i < length made → x ≡ point n j i → v ≡ eval (take c front) x
+      → take i made ≡ first_values n j i (take c room) → take (i + 1) (set made i v) ≡ first_values n j (i + 1) (take c room)
+  unfolding first_values
+  values_turn {x} {v} {front} made i h k l e f so_far =
+      let here : v ≡ eval (take c room) (point n j i) = f ∙ ap₂ eval (ap (take c) k ∙ take-take c s room h) e in
+      take_more_set made i v l ∙ ap₂ (λ (y : List ℕ) (z : ℕ). y ++ (z ∷ [])) so_far here ∙ rw add-one (sym (tabulate_snoc i _))
 
-  pub values_turn : {d : List ℕ} {x v : ℕ} (i : ℕ) → c ≤ s → s + i < length l → d ≡ stored l n j c s i → x ≡ point n j i → v ≡ eval (take c d) x
-      → set d (s + i) v ≡ stored l n j c s (i + 1)
-  unfolding stored
-  values_turn {d} {x} {v} i k h e q f =
-      let g : ℕ → ℕ = λ (m : ℕ). eval (take c l) (point n j m) in
-      let here : v ≡ eval (take c l) (point n j i) = f ∙ ap₂ eval (front i k (omega arith) e) q in
-      let long : length (take s l ++ tabulate i g) ≡ s + i = omega (arith, length-append (take s l) (tabulate i g), length-take-le s l (omega arith), tabulate-length i g) in
-      let rest : drop (s + i) l ≡ get_or l (s + i) 0 ∷ drop (suc (s + i)) l = drop-cons l (s + i) 0 h in
-      let next : s + (i + 1) ≡ suc (s + i) = omega arith in
-      ap (λ (y : List ℕ). set y (s + i) v) (e ∙ ap (λ (y : List ℕ). take s l ++ (tabulate i g ++ y)) rest ∙ sym (append_assoc (take s l) (tabulate i g) _))
-      ∙ set_at (take s l ++ tabulate i g) (get_or l (s + i) 0) (drop (suc (s + i)) l) v (s + i) long
-      ∙ rw (here, append_assoc, next, add-one i, tabulate_snoc i g, append_snoc)
-
-  pub values-end : {d : List ℕ} (i : ℕ) → j ≤ n → n ≤ 30 → c ≤ s → s ≡ layer_size n j → length l ≡ 2 * s → i ≡ s → d ≡ stored l n j c s i
-      → d ≡ evaluated n j c l
-  unfolding stored evaluated is_room values
-  values-end {d} i a b h k z q e =
-      let none : drop (s + i) l ≡ [] = drop_of_length-le l {i = s + i} (omega arith) in
+  pub values-end : {front : List ℕ} (made : List ℕ) (i : ℕ) → j ≤ n → n ≤ 30 → c ≤ s → s ≡ layer_size n j → length room ≡ 2 * s → front ≡ take s room
+      → length made ≡ s → i ≡ s → take i made ≡ first_values n j i (take c room) → front ++ made ≡ evaluated n j c room
+  unfolding first_values evaluated is_room values
+  values-end {front} made i a b h k z f l q all =
       let fits : c ≤ layer_size n j = omega arith in
-      let whole : length l ≡ 2 * layer_size n j = omega arith in
-      e ∙ rw (none, append-nil, q, k, le-leb j n a, le-leb n 30 b, le-leb c (layer_size n j) fits, eq-eqb (length l) (2 * layer_size n j) whole)
-
--- Each way to be no room.
-pub no_layer : (n j c : ℕ) (l : List ℕ) → n < j → l ≡ evaluated n j c l
-unfolding evaluated is_room
-no_layer n j c l a = rw (lt-leb _ _ a)
-
-pub no_domain : (n j c : ℕ) (l : List ℕ) → j ≤ n → 30 < n → l ≡ evaluated n j c l
-unfolding evaluated is_room
-no_domain n j c l a b = rw (le-leb _ _ a, lt-leb _ _ b)
-
-pub no_count : {s : ℕ} (n j c : ℕ) (l : List ℕ) → j ≤ n → n ≤ 30 → s ≡ layer_size n j → s < c → l ≡ evaluated n j c l
-unfolding evaluated is_room
-no_count n j c l a b e d = rw (le-leb _ _ a, le-leb _ _ b, ← e, lt-leb _ _ d)
-
-pub no_size : {s : ℕ} (n j c : ℕ) (l : List ℕ) → j ≤ n → n ≤ 30 → s ≡ layer_size n j → c ≤ s → (length l ≡ 2 * s → ⊥) → l ≡ evaluated n j c l
-unfolding evaluated is_room
-no_size n j c l a b e d f = rw (le-leb _ _ a, le-leb _ _ b, ← e, le-leb _ _ d, ne_eqb _ _ f)
+      let whole : length room ≡ 2 * layer_size n j = omega arith in
+      ap₂ (λ (y z : List ℕ). y ++ z) f (sym (take_all i made (omega arith)) ∙ all)
+      ∙ rw (q, k, le-leb j n a, le-leb n 30 b, le-leb c (layer_size n j) fits, eq-eqb (length room) (2 * layer_size n j) whole)
 
 -- The fold of the first 2·i coefficients has i, and two coefficients more append one.
 front_length : (β i : ℕ) (l : List ℕ) → 2 * i ≤ length l → length (fold β (take (2 * i) l)) ≡ i

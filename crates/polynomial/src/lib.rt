@@ -11,27 +11,22 @@ fn evaluate(room: &mut [u32], count: usize, size: usize, n: u8, layer: u8)
 {
     let root = felt::subgroup_generator((n - layer) as usize);
     let mut x = domain::point(n, layer, 0);
-    let mut i = 0;
-    while i < size {
-        let value = fold::eval_lent(&room[..], count, x);
-        room[size + i] = value;
+    let (polynomial, values) = room.split_at_mut(size);
+    for value in values {
+        *value = fold::eval_lent(polynomial, count, x);
         x = field::mul(x, root);
-        i += 1;
     }
 }
 
 // The engine: the values of the first count numbers of a layer's room, into its second half.
+#[tactic(auto, using(crate::proofs::PolynomialLaws::size_made), unfolding(crate::specs::Polynomial::evaluated, crate::specs::Polynomial::is_room))]
 pub fn values(room: &mut [u32], count: usize, n: u8, layer: u8)
     ensures { room.new ≡ spec.evaluated n layer count room.old }
 {
-    if layer <= n {
-        if n <= 30 {
-            let size = binary::power_of_two(n - layer);
-            if count <= size {
-                if room.len() == 2 * size {
-                    evaluate(room, count, size, n, layer);
-                }
-            }
+    if layer <= n && n <= 30 {
+        let size = binary::power_of_two(n - layer);
+        if count <= size && room.len() == 2 * size {
+            evaluate(room, count, size, n, layer);
         }
     }
 }
@@ -41,13 +36,10 @@ pub fn fold(poly: &mut [u32], beta: u32)
     ensures { poly.new ≡ spec.folded_in_place beta poly.old }
 {
     if poly.len() % 2 == 0 {
-        let half = poly.len() / 2;
-        let mut i = 0;
-        while i < half {
+        for i in 0..poly.len() / 2 {
             let even = poly[2 * i];
             let odd = poly[2 * i + 1];
             poly[i] = field::mul_add(beta, odd, even);
-            i += 1;
         }
     }
 }

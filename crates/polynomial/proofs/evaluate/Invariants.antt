@@ -1,15 +1,11 @@
-use Prim.Native.Nat.{◌*◌, ◌-◌, ◌≤◌}
 use mathlib.Core.Path.{◌≡◌}
-use lib.ListN.{length}
+use lib.ListN.{take}
 use Rattle.domain.specs.Domain.{point}
-use Rattle.polynomial.proofs.PolynomialLaws.{stored}
+use Rattle.polynomial.proofs.PolynomialLaws.{first_values}
 use Rattle.polynomial.proofs.evaluate.Given as goal
 
-abbrev pub invariant-loop-i : goal.invariant-loop-i
-invariant-loop-i l = (l.i ≤ l.size)
-    × ((length l.room ≡ 2 * l.size)
-    × ((l.x ≡ point l.n l.layer l.i)
-    × (l.room ≡ stored l.initial.room l.n l.layer l.count l.size l.i)))
-
-abbrev pub decreases-loop-i : goal.decreases-loop-i
-decreases-loop-i l = l.size - l.i
+abbrev pub invariant-loop-value : goal.invariant-loop-value
+invariant-loop-value l = record {
+  at_the_point : l.x ≡ point l.n l.layer l.value-index;
+  stored : take l.value-index l.value-items ≡ first_values l.n l.layer l.value-index (take l.count l.fn.room);
+}

@@ -5,17 +5,17 @@ use Rattle.polynomial.proofs.PolynomialLaws.{fold_start, fold_turn, fold_end, fo
 use Rattle.polynomial.proofs.fold.Goals as goal
 
 pub loop-i-init : goal.loop-i-init
-loop-i-init c = (search rules, (search rules, fold_start _ _))
+loop-i-init c = fold_start _ _
 
 pub loop-i-preserved : goal.loop-i-preserved
 loop-i-preserved c =
     let l = c.loop-i in
-    (search rules, (search rules, fold_turn _ _ l.i (omega arith) l.invariant.1.1 c.mul_add.ensures))
+    fold_turn _ _ l.i (omega arith) l.invariant c.mul_add.ensures
 
 pub returns-after-loop-i : goal.returns-after-loop-i
 returns-after-loop-i c =
     let l = c.loop-i in
-    fold_end _ _ l.i (search rules) (search rules) l.invariant.1.1
+    fold_end _ _ l.i (search rules) (search rules) l.invariant
 
 pub returns-else-poly-eq0 : goal.returns-else-poly-eq0
 returns-else-poly-eq0 c = fold_none _ _ c.if-poly-eq0.false
