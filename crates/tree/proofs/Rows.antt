@@ -1,15 +1,14 @@
 -- Trees in lent bytes: rows laid one behind the other, the root read from there, and the siblings of a leaf.
 -- Assumes nothing.
 use Prim.Native.Nat.{ℕ, zero, suc, ◌+◌, ◌*◌, ◌^◌, ◌-◌, ◌/◌, ◌%◌, ◌≤◌, ◌<◌}
-use mathlib.Core.Bool.{Bool, true, false, ◌&&◌}
+use mathlib.Core.Bool.{true}
 use mathlib.Core.List.{List, [], ◌++◌, append_assoc, append-nil}
 use mathlib.Core.Path.{◌≡◌, refl, sym, ap, ap₂, ◌∙◌}
 use native.Mathlib.Nat.{one-le-pow, pow-suc}
 use native.Mathlib.Omega.{arith}
-use borrow.Author.Tests.{le-leb, lt-leb, eq-eqb, ne_eqb, lt-ltb, le-ltb}
-use lib.Dec.{leb}
-use lib.ListN.{length, take, drop, length-append, length-drop, take-append-drop, replicate}
-use lib.Seq.{sets, length-take-le, take-add, take_all, drop-drop, drop-append-add}
+use borrow.Author.Tests.{le-leb, eq-eqb}
+use lib.ListN.{length, take, drop, length-append, length-drop, take-append-drop}
+use lib.Seq.{sets, length-take-le, take-add, take_all, drop-append-add}
 use Rattle.message.specs.Bytes.{joined, part}
 use Rattle.message.specs.Message.{Digest}
 use Rattle.message.proofs.Bytes.{Sized, joined_length, joined_at}
@@ -20,27 +19,26 @@ use Rattle.merkle.proofs.Opens.{leaf_all, above-length, sibling-below}
 use Rattle.message.proofs.Tabulate.{tabulate-length, tabulate_sized}
 use Rattle.buffer.specs.Buffer.{put}
 use Rattle.buffer.proofs.BufferLaws.{put-fits, put-stays}
-use Rattle.message.proofs.Placed.{part_length, part-drop, take_before, sets_behind}
-use Rattle.tree.specs.Tree.{is_layer, tree_size, is_tree_size, leaf_row, leaves_put, rows, tree_over, root_over, siblings_in, is_path, path_put}
-use Rattle.tree.proofs.TreeLaws.{joined-digests, digests-length, row_read, size_even}
+use Rattle.message.proofs.Placed.{part_length, take_before, sets_behind}
+use Rattle.tree.specs.Tree.{is_layer, tree_size, is_tree_size, leaf_row, leaves_put, rows, tree_over, root_over, siblings_in}
+use Rattle.std.specs.Prelude.{bit_xor}
+use Rattle.tree.proofs.TreeLaws.{joined-digests, digests-length, row_read, size_even, xor_sibling}
 use Rattle.tree.proofs.Size.{above_sized}
 
 -- What a row takes off a tree.
 size_step : (d : ℕ) → tree_size (suc d) ≡ 64 * 2 ^ d + tree_size d
 size_step d = omega (arith, pow-suc 2 d, size_even d, size_even (suc d))
 
--- The next row has space behind its row, and the rows above it behind that.
-pub row_fits : (from left count n : ℕ) → 0 < left → count ≡ 2 ^ (left - 1) → from + tree_size left ≡ n → from + 96 * count ≤ n
-row_fits from zero count n h e k = absurd (omega arith)
-row_fits from (suc d) count n h e k =
-    let back : suc d - 1 ≡ d = omega arith in
-    omega (arith, rw back at e, size_step d, size_even d, one-le-pow d 2 (omega arith))
+-- One row up: its width.
+pub half_width : {width : ℕ} (left d : ℕ) → left ≡ suc d → width ≡ 2 ^ left → width / 2 ≡ 2 ^ d
+half_width left d h e = omega (arith, pow-suc 2 d, e ∙ ap (λ (k : ℕ). 2 ^ k) h)
 
-pub rest_fits : (from left count n : ℕ) → 0 < left → count ≡ 2 ^ (left - 1) → from + tree_size left ≡ n → from + 64 * count + tree_size (left - 1) ≡ n
-rest_fits from zero count n h e k = absurd (omega arith)
-rest_fits from (suc d) count n h e k =
-    let back : suc d - 1 ≡ d = omega arith in
-    rw back (omega (arith, rw back at e, size_step d))
+-- The next row has space behind its row, and the rows above it behind that.
+pub row_fits : (from left d count n : ℕ) → left ≡ suc d → count ≡ 2 ^ d → from + tree_size left ≡ n → from + 96 * count ≤ n
+row_fits from left d count n h e k = omega (arith, rw h at k, size_step d, size_even d, one-le-pow d 2 (omega arith))
+
+pub rest_fits : (from left d count n : ℕ) → left ≡ suc d → count ≡ 2 ^ d → from + tree_size left ≡ n → from + 64 * count + tree_size d ≡ n
+rest_fits from left d count n h e k = omega (arith, rw h at k, size_step d)
 
 -- A loop that writes row above row: a turn, and the end.
 rows_step : (space : List ℕ) (from d count : ℕ) → count ≡ 2 ^ d → from + tree_size (suc d) ≡ length space
@@ -66,16 +64,14 @@ rows_step space from d count e h =
     ∙ append_assoc (take from space) (joined row) (rows sha256 d (above sha256 row))
     ∙ ap (λ (k : ℕ). take from space ++ rows sha256 (suc d) (digests k (drop from space))) double
 
-pub rows_turn : {made all : List ℕ} (space : List ℕ) (from left count : ℕ) → 0 < left → count ≡ 2 ^ (left - 1) → from + tree_size left ≡ length space
+pub rows_turn : {made all : List ℕ} (space : List ℕ) (from left d count : ℕ) → left ≡ suc d → count ≡ 2 ^ d → from + tree_size left ≡ length space
     → made ≡ sets space (from + 64 * count) (joined (above sha256 (digests (2 * count) (drop from space))))
     → take from space ++ rows sha256 left (digests (2 ^ left) (drop from space)) ≡ all
-    → take (from + 64 * count) made ++ rows sha256 (left - 1) (digests (2 ^ (left - 1)) (drop (from + 64 * count) made)) ≡ all
-rows_turn space from zero count h e k p inv = absurd (omega arith)
-rows_turn {made} {all} space from (suc d) count h e k p inv =
-    let back : suc d - 1 ≡ d = omega arith in
-    rw (back, p) (rows_step space from d count (rw back at e) k ∙ inv)
+    → take (from + 64 * count) made ++ rows sha256 d (digests (2 ^ d) (drop (from + 64 * count) made)) ≡ all
+rows_turn {made} {all} space from left d count h e k p inv =
+    rw p (rows_step space from d count e (rw h at k) ∙ rw h at inv)
 
-pub rows_end : {all : List ℕ} (space : List ℕ) (from left : ℕ) → left ≤ 0 → from + tree_size left ≡ length space
+pub rows_end : {all : List ℕ} (space : List ℕ) (from left : ℕ) → left ≡ 0 → from + tree_size left ≡ length space
     → take from space ++ rows sha256 left (digests (2 ^ left) (drop from space)) ≡ all → space ≡ all
 unfolding rows tree_size
 rows_end space from zero h k inv =
@@ -103,10 +99,11 @@ unfolding digests
 front_sized zero xs h = Sized.none
 front_sized (suc n) xs h = Sized.more (length-take-le 32 xs (omega arith)) (front_sized n (drop 32 xs) (omega (arith, length-drop 32 xs)))
 
-pub rows_root : {made root : List ℕ} (space : List ℕ) (d size : ℕ) → length space ≡ tree_size d → size ≡ tree_size d
-    → made ≡ rows sha256 d (digests (2 ^ d) space) → root ≡ part (size - 32) 32 made → root ≡ root_of sha256 d (digests (2 ^ d) space)
-rows_root space d size h q e f =
-    f
+pub rows_root : {made : List ℕ} (space : List ℕ) (d size : ℕ) → length space ≡ tree_size d → length made ≡ tree_size d → size ≡ tree_size d
+    → made ≡ rows sha256 d (digests (2 ^ d) space) → drop (size - 32) made ≡ root_of sha256 d (digests (2 ^ d) space)
+unfolding part
+rows_root {made} space d size h l q e =
+    sym (take_all 32 (drop (size - 32) made) (omega (arith, length-drop (size - 32) made)))
     ∙ ap₂ (λ (k : ℕ) (x : List ℕ). part (k - 32) 32 x) q e
     ∙ root_read d (digests (2 ^ d) space) (front_sized (2 ^ d) space (omega (arith, size_even d, one-le-pow d 2 (omega arith)))) (digests-length (2 ^ d) space)
 
@@ -127,123 +124,74 @@ module _ (hash : List ℕ → Digest) (size : (xs : List ℕ) → length (hash x
       → digests (2 ^ d) (sets space 0 (joined (leaf_row hash j perLeaf d values))) ≡ leaf_row hash j perLeaf d values
   leaf_row_read space h = row_read space (leaf_row hash j perLeaf d values) 0 (2 ^ d) leaf_row_sized leaf_row_length (omega arith)
 
--- The tests of a layer, of a tree's size and of a path.
-and_false : (b : Bool) → (b && false) ≡ false
-and_false true = refl
-and_false false = refl
-
-module _ (perLeaf d v : ℕ) where
-  layer_yes : d ≤ 30 → perLeaf ≤ 4 → v ≡ perLeaf * 2 ^ d → is_layer perLeaf d v ≡ true
+-- A layer with room for its digests, or without; a tree's size.
+module _ (j perLeaf d : ℕ) (values space : List ℕ) (high : d ≤ 30) (few : perLeaf ≤ 4) (full : length values ≡ perLeaf * 2 ^ d) where
+  layer_yes : is_layer perLeaf d (length values) ≡ true
   unfolding is_layer
-  layer_yes h k l = rw (le-leb d 30 h, le-leb perLeaf 4 k, eq-eqb v (perLeaf * 2 ^ d) l)
+  layer_yes = rw (le-leb d 30 high, le-leb perLeaf 4 few, eq-eqb (length values) (perLeaf * 2 ^ d) full)
 
-  pub layer-high : 30 < d → is_layer perLeaf d v ≡ false
-  unfolding is_layer
-  layer-high h = rw (lt-leb d 30 h)
-
-  pub layer-many : 4 < perLeaf → is_layer perLeaf d v ≡ false
-  unfolding is_layer
-  layer-many h = rw (lt-leb perLeaf 4 h) (and_false (leb d 30))
-
-  pub layer-values : (v ≡ perLeaf * 2 ^ d → ⊥) → is_layer perLeaf d v ≡ false
-  unfolding is_layer
-  layer-values h = rw (ne_eqb v (perLeaf * 2 ^ d) h, and_false (leb perLeaf 4)) (and_false (leb d 30))
-
-module _ (j perLeaf d : ℕ) (values space : List ℕ) where
-  pub leaves_none : is_layer perLeaf d (length values) ≡ false → leaves_put sha256 j perLeaf d values space ≡ space
+  pub leaves_fit : {s : List ℕ} → 32 * 2 ^ d ≤ length space → s ≡ sets space 0 (joined (leaf_row sha256 j perLeaf d values))
+      → s ≡ leaves_put sha256 j perLeaf d values space
   unfolding leaves_put
-  leaves_none e = rw e
+  leaves_fit h e =
+      rw layer_yes (e ∙ sym (put-fits space 0 _ (omega (arith, leaf_row_joined sha256 length-sha256 j perLeaf d values))))
 
-  module _ (high : d ≤ 30) (few : perLeaf ≤ 4) (full : length values ≡ perLeaf * 2 ^ d) where
-    pub leaves_fit : {s : List ℕ} → 32 * 2 ^ d ≤ length space → s ≡ sets space 0 (joined (leaf_row sha256 j perLeaf d values))
-        → s ≡ leaves_put sha256 j perLeaf d values space
-    unfolding leaves_put
-    leaves_fit h e =
-        rw (layer_yes perLeaf d (length values) high few full)
-        (e ∙ sym (put-fits space 0 _ (omega (arith, leaf_row_joined sha256 length-sha256 j perLeaf d values))))
+  pub leaves_stay : length space < 32 * 2 ^ d → leaves_put sha256 j perLeaf d values space ≡ space
+  unfolding leaves_put
+  leaves_stay h = rw layer_yes (put-stays space 0 _ (omega (arith, leaf_row_joined sha256 length-sha256 j perLeaf d values)))
 
-    pub leaves_stay : length space < 32 * 2 ^ d → leaves_put sha256 j perLeaf d values space ≡ space
-    unfolding leaves_put
-    leaves_stay h =
-        rw (layer_yes perLeaf d (length values) high few full)
-        (put-stays space 0 _ (omega (arith, leaf_row_joined sha256 length-sha256 j perLeaf d values)))
-
-module _ (d n : ℕ) where
-  pub size_yes : d ≤ 30 → n ≡ tree_size d → is_tree_size d n ≡ true
-  unfolding is_tree_size
-  size_yes h k = rw (le-leb d 30 h, eq-eqb n (tree_size d) k)
-
-  pub size-high : 30 < d → is_tree_size d n ≡ false
-  unfolding is_tree_size
-  size-high h = rw (lt-leb d 30 h)
-
-  pub size_other : (n ≡ tree_size d → ⊥) → is_tree_size d n ≡ false
-  unfolding is_tree_size
-  size_other h = rw (ne_eqb n (tree_size d) h) (and_false (leb d 30))
+pub size_yes : (d n : ℕ) → d ≤ 30 → n ≡ tree_size d → is_tree_size d n ≡ true
+unfolding is_tree_size
+size_yes d n h k = rw (le-leb d 30 h, eq-eqb n (tree_size d) k)
 
 module _ (d : ℕ) (space : List ℕ) where
   pub tree_yes : is_tree_size d (length space) ≡ true → tree_over sha256 d space ≡ rows sha256 d (digests (2 ^ d) space)
   unfolding tree_over
   tree_yes e = rw e
 
-  pub tree_no : is_tree_size d (length space) ≡ false → tree_over sha256 d space ≡ space
-  unfolding tree_over
-  tree_no e = rw e
-
   pub root_yes : is_tree_size d (length space) ≡ true → root_over sha256 d space ≡ root_of sha256 d (digests (2 ^ d) space)
   unfolding root_over
   root_yes e = rw e
 
-  pub root_no : is_tree_size d (length space) ≡ false → root_over sha256 d space ≡ replicate 32 0
-  unfolding root_over
-  root_no e = rw e
+-- The sibling's bytes stand in what is left of the tree, and so does the row.
+pub sibling-fits : (levels level index n : ℕ) → level < levels → index < 2 ^ (levels - level) → tree_size (levels - level) ≡ n → 32 * bit_xor index 1 + 32 ≤ n
+sibling-fits levels level index n h b k =
+    let d : ℕ = levels - (level + 1) in
+    let more : levels - level ≡ suc d = omega arith in
+    let below : index < 2 * 2 ^ d = omega (arith, rw more at b, pow-suc 2 d) in
+    omega (arith, xor_sibling index, rw more at k, pow-suc 2 d, size_even (suc d), one-le-pow d 2 (omega arith), sibling-below index (2 ^ d) (index % 2) refl below)
 
--- The sibling's bytes stand in the tree.
-pub sibling-fits : (from left index s n : ℕ) → 0 < left → index < 2 ^ left → from + tree_size left ≡ n → s ≡ sibling (index % 2) index → from + 32 * s + 32 ≤ n
-sibling-fits from zero index s n h b k e = absurd (omega arith)
-sibling-fits from (suc d) index s n h b k e =
-    omega (arith, pow-suc 2 d, size_even (suc d), one-le-pow d 2 (omega arith), sibling-below index (2 ^ d) (index % 2) refl (omega (arith, pow-suc 2 d)))
+pub width_fits : (left width n : ℕ) → width ≡ 2 ^ left → tree_size left ≡ n → 32 * width ≤ n
+width_fits left width n e k = omega (arith, size_even left, one-le-pow left 2 (omega arith))
 
 -- One height up: the index there, and what is left of the tree.
-pub index_fits : (left index : ℕ) → 0 < left → index < 2 ^ left → index / 2 < 2 ^ (left - 1)
-index_fits zero index h b = absurd (omega arith)
-index_fits (suc d) index h b =
-    let back : suc d - 1 ≡ d = omega arith in
-    rw back (omega (arith, pow-suc 2 d))
+pub index_fits : (left d index : ℕ) → left ≡ suc d → index < 2 ^ left → index / 2 < 2 ^ d
+index_fits left d index h b = omega (arith, rw h at b, pow-suc 2 d)
 
-pub next_fits : (from left width n : ℕ) → 0 < left → width ≡ 2 ^ left → from + tree_size left ≡ n → from + 32 * width + tree_size (left - 1) ≡ n
-next_fits from zero width n h e k = absurd (omega arith)
-next_fits from (suc d) width n h e k =
-    let back : suc d - 1 ≡ d = omega arith in
-    rw back (omega (arith, pow-suc 2 d, size_step d))
+pub next_fits : (left d width : ℕ) (row : List ℕ) → left ≡ suc d → width ≡ 2 ^ left → tree_size left ≡ length row → tree_size d ≡ length (drop (32 * width) row)
+next_fits left d width row h e k = omega (arith, rw h at k, rw h at e, pow-suc 2 d, size_step d, length-drop (32 * width) row)
 
 -- A loop that writes sibling after sibling: a turn, and the end.
-pub walk_turn : {b' all : List ℕ} (b tree : List ℕ) (left from index to s width n : ℕ) → 0 < left → s ≡ sibling (index % 2) index → width ≡ 2 ^ left → n ≡ 32
-    → to + 32 ≤ length b → from + 32 * s + 32 ≤ length tree → b' ≡ put b to (take n (drop (from + 32 * s) tree))
-    → sets b to (siblings_in left (drop from tree) index) ≡ all
-    → sets b' (to + 32) (siblings_in (left - 1) (drop (from + 32 * width) tree) (index / 2)) ≡ all
+pub walk_turn : {b' all : List ℕ} (b row : List ℕ) (left d index to next s width n : ℕ) → left ≡ suc d → next ≡ to + 32 → s ≡ sibling (index % 2) index → width ≡ 2 ^ left → n ≡ 32
+    → to + 32 ≤ length b → 32 * s + 32 ≤ length row → b' ≡ put b to (take n (drop (32 * s) row))
+    → sets b to (siblings_in left row index) ≡ all
+    → sets b' next (siblings_in d (drop (32 * width) row) (index / 2)) ≡ all
 unfolding siblings_in part
-walk_turn b tree zero from index to s width n h e w k f g p inv = absurd (omega arith)
-walk_turn {b'} {all} b tree (suc d) from index to s width n h e w k f g p inv =
-    let back : suc d - 1 ≡ d = omega arith in
-    let one : List ℕ = part (32 * s) 32 (drop from tree) in
-    let rest : List ℕ = siblings_in d (drop (from + 32 * width) tree) (index / 2) in
-    let long : length one ≡ 32 = part_length (32 * s) 32 (drop from tree) (omega (arith, length-drop from tree)) in
-    let stored : b' ≡ sets b to one =
-    p
-    ∙ ap (λ (j : ℕ). put b to (take j (drop (from + 32 * s) tree))) k
-    ∙ ap (λ (x : List ℕ). put b to x) (sym (part-drop (32 * s) from 32 tree))
-    ∙ put-fits b to one (omega arith) in
+walk_turn {b'} {all} b row left d index to next s width n h step e w k f g p inv =
+    let one : List ℕ = part (32 * s) 32 row in
+    let rest : List ℕ = siblings_in d (drop (32 * width) row) (index / 2) in
+    let long : length one ≡ 32 = part_length (32 * s) 32 row g in
+    let stored : b' ≡ sets b to one = p ∙ ap (λ (j : ℕ). put b to (take j (drop (32 * s) row))) k ∙ put-fits b to one (omega arith) in
     let moved : sets b to (one ++ rest) ≡ all =
-    ap₂ (λ (j : ℕ) (x : List ℕ). sets b to (part (32 * j) 32 (drop from tree) ++ siblings_in d x (index / 2))) e
-    (sym (drop-drop (32 * width) from tree) ∙ ap (λ (j : ℕ). drop (32 * j) (drop from tree)) w)
+    ap₂ (λ (j w : ℕ). sets b to (part (32 * j) 32 row ++ siblings_in d (drop (32 * w) row) (index / 2))) e (w ∙ ap (λ (j : ℕ). 2 ^ j) h)
+    ∙ ap (λ (j : ℕ). sets b to (siblings_in j row index)) (sym h)
     ∙ inv in
-    rw (back, stored) (sets_behind b one rest to (to + 32) (omega arith) ∙ moved)
+    rw stored (sets_behind b one rest to next (omega (arith, step)) ∙ moved)
 
-pub walk_end : {all : List ℕ} (b tree : List ℕ) (left from index to : ℕ) → left ≤ 0 → sets b to (siblings_in left (drop from tree) index) ≡ all → b ≡ all
+pub walk_end : {all : List ℕ} (b row : List ℕ) (left index to : ℕ) → left ≡ 0 → sets b to (siblings_in left row index) ≡ all → b ≡ all
 unfolding siblings_in
-walk_end b tree zero from index to h inv = inv
-walk_end b tree (suc d) from index to h inv = absurd (omega arith)
+walk_end b row zero index to h inv = inv
+walk_end b row (suc d) index to h inv = absurd (omega arith)
 
 -- A digest for each height.
 pub siblings-length : (d : ℕ) (tree : List ℕ) (m : ℕ) → tree_size d ≤ length tree → m < 2 ^ d → length (siblings_in d tree m) ≡ 32 * d
@@ -258,33 +206,10 @@ siblings-length (suc d) tree m h b =
     (omega (arith, pow-suc 2 d, size_step d, length-drop (32 * 2 ^ suc d) tree)) (omega (arith, pow-suc 2 d)) in
     length-append (part (32 * s) 32 tree) (siblings_in d (drop (32 * 2 ^ suc d) tree) (m / 2)) ∙ omega arith
 
-module _ (d n m : ℕ) where
-  path_yes : d ≤ 30 → n ≡ tree_size d → m < 2 ^ d → is_path d n m ≡ true
-  unfolding is_path
-  path_yes h k l = rw (size_yes d n h k, lt-ltb m (2 ^ d) l)
+-- A path that fits, and one that doesn't.
+module _ (d m at : ℕ) (tree buffer : List ℕ) (size : length tree ≡ tree_size d) (leaf : m < 2 ^ d) where
+  pub path_within : at + 32 * d ≤ length buffer → put buffer at (siblings_in d tree m) ≡ sets buffer at (siblings_in d tree m)
+  path_within h = put-fits buffer at (siblings_in d tree m) (omega (arith, siblings-length d tree m (omega arith) leaf))
 
-  pub path-size : is_tree_size d n ≡ false → is_path d n m ≡ false
-  unfolding is_path
-  path-size e = rw e
-
-  pub path-leaf : 2 ^ d ≤ m → is_path d n m ≡ false
-  unfolding is_path
-  path-leaf h = rw (le-ltb m (2 ^ d) h) (and_false (is_tree_size d n))
-
-module _ (d m at : ℕ) (tree buffer : List ℕ) where
-  pub path_none : is_path d (length tree) m ≡ false → path_put d tree m buffer at ≡ buffer
-  unfolding path_put
-  path_none e = rw e
-
-  module _ (high : d ≤ 30) (size : length tree ≡ tree_size d) (leaf : m < 2 ^ d) where
-    pub path-fits : {b : List ℕ} → at + 32 * d ≤ length buffer → b ≡ sets buffer at (siblings_in d tree m) → b ≡ path_put d tree m buffer at
-    unfolding path_put
-    path-fits h e =
-        rw (path_yes d (length tree) m high size leaf)
-        (e ∙ sym (put-fits buffer at (siblings_in d tree m) (omega (arith, siblings-length d tree m (omega arith) leaf))))
-
-    pub path-stays : length buffer < at + 32 * d → path_put d tree m buffer at ≡ buffer
-    unfolding path_put
-    path-stays h =
-        rw (path_yes d (length tree) m high size leaf)
-        (put-stays buffer at (siblings_in d tree m) (omega (arith, siblings-length d tree m (omega arith) leaf)))
+  pub path_beyond : length buffer < at + 32 * d → put buffer at (siblings_in d tree m) ≡ buffer
+  path_beyond h = put-stays buffer at (siblings_in d tree m) (omega (arith, siblings-length d tree m (omega arith) leaf))

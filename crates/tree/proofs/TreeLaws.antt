@@ -1,13 +1,16 @@
 -- Rows of digests in lent bytes: one block more written, the row above, a row read back, and the size of a tree.
 -- Assumes nothing.
-use Prim.Native.Nat.{ℕ, zero, suc, ◌+◌, ◌*◌, ◌^◌, ◌-◌, ◌%◌, ◌≤◌, ◌<◌}
-use mathlib.Core.List.{List, [], ◌∷◌, ◌++◌, append_assoc}
+use Prim.Native.Nat.{ℕ, zero, suc, ◌+◌, ◌*◌, ◌^◌, ◌/◌, ◌%◌, ◌≤◌, ◌<◌}
+use mathlib.Core.List.{List, ◌∷◌, ◌++◌, append_assoc}
 use mathlib.Core.Path.{◌≡◌, refl, sym, ap, ap₂, ◌∙◌}
-use native.Mathlib.Nat.{one-le-pow, suc-mul, mul-le-mul_right}
+use native.Mathlib.Nat.{one-le-pow}
 use native.Mathlib.Numerals.{add-one}
 use native.Mathlib.Omega.{arith}
 use lib.ListN.{length, get_or, set, take, drop}
-use lib.Seq.{sets, length-sets, take-add, drop-drop, take_at, drop_at, take-suc-set}
+use lib.Bits.{xor_shr, xor_mod, xor_zero_r}
+use lib.Seq.{sets, length-sets, take-add, drop-drop, take_at, drop_at, take-suc-set, take-take}
+use Rattle.std.proofs.lemmas.List.{drop-take}
+use Rattle.std.specs.Prelude.{bit_xor}
 use Rattle.message.specs.Bytes.{joined, part}
 use Rattle.message.specs.Message.{Digest, tagged_hash}
 use Rattle.message.proofs.Bytes.{Sized, none, more, joined_length, joined_snoc}
@@ -20,7 +23,7 @@ use Rattle.message.specs.Lists.{tabulate}
 use Rattle.message.proofs.Tabulate.{tabulate-length, tabulate_snoc, tabulate_sized}
 use Rattle.buffer.specs.Buffer.{put}
 use Rattle.buffer.proofs.BufferLaws.{put-fits}
-use Rattle.message.proofs.Placed.{part_length, part-drop, part_before, drop-sets, sets_behind, sets_all}
+use Rattle.message.proofs.Placed.{part_length, part-drop, part_before, drop-sets, sets_behind}
 use Rattle.tree.specs.Tree.{tree_size, values_of, leaf_row}
 
 -- Digests stored in l one after the other, from index at on: one digest more, and a loop's turn that puts it.
@@ -70,26 +73,12 @@ pub size_even : (d : ℕ) → tree_size d + 32 ≡ 64 * 2 ^ d
 unfolding tree_size
 size_even d = omega (arith, one-le-pow d 2 (omega arith))
 
--- A loop that copies the values of leaf m: none, one more, and all; the place of the next, and that it is inside.
-pub values_none : (values : List ℕ) (count m : ℕ) → [] ≡ values_of 0 count values m
-unfolding values_of tabulate
-values_none values count m = refl
-
-pub values-done : {perLeaf : ℕ} (leaf values : List ℕ) (count m r : ℕ) → r ≡ perLeaf → take r leaf ≡ values_of r count values m
-    → take perLeaf leaf ≡ values_of perLeaf count values m
-values-done leaf values count m r e p = rw (sym e) p
-
-pub values-more : (leaf values : List ℕ) (count m at r : ℕ) → at ≡ m + r * count → r < length leaf → take r leaf ≡ values_of r count values m
-    → take (r + 1) (set leaf r (get_or values at 0)) ≡ values_of (r + 1) count values m
+-- A loop that copies the values of leaf m: one more.
+pub values-more : (leaf values : List ℕ) (count m r : ℕ) → r < length leaf → take r leaf ≡ values_of r count values m
+    → take (r + 1) (set leaf r (get_or values (m + r * count) 0)) ≡ values_of (r + 1) count values m
 unfolding values_of
-values-more leaf values count m at r e h p =
-    rw (add-one r, take-suc-set leaf r (get_or values at 0) h, p, e) (sym (tabulate_snoc r (λ (i : ℕ). get_or values (m + i * count) 0)))
-
-pub value-next : {at : ℕ} (count m r : ℕ) → at ≡ m + r * count → at + count ≡ m + (r + 1) * count
-value-next count m r e = omega (arith, ap (λ (k : ℕ). k * count) (add-one r), suc-mul r count)
-
-pub value_inside : {at : ℕ} (perLeaf count m r : ℕ) → m < count → r < perLeaf → at ≡ m + r * count → at < perLeaf * count
-value_inside perLeaf count m r h k e = omega (arith, mul-le-mul_right {m = suc r} {n = perLeaf} count k, suc-mul r count)
+values-more leaf values count m r h p =
+    rw (add-one r, take-suc-set leaf r _ h, p) (sym (tabulate_snoc r (λ (i : ℕ). get_or values (m + i * count) 0)))
 
 -- The digest of leaf m of a layer, and a loop that writes them: one more, and the end.
 abbrev pub leaf_at : ℕ → ℕ → ℕ → List ℕ → ℕ → Digest
@@ -158,27 +147,28 @@ row_done l from to count i q h k p =
     let all : i ≡ count = omega arith in
     p ∙ rw (q, all, above_pairs sha256 count (drop from l))
 
--- The node above two parts of a space.
-pub node_parts : {r : Digest} (xs : List ℕ) (i n k : ℕ) → i + 64 ≤ length xs → n ≡ 32 → k ≡ 32
-    → r ≡ tagged_hash 1 (take n (drop i xs)) (take k (drop (i + 32) xs)) → r ≡ node sha256 (part i 32 xs) (part (i + 32) 32 xs)
+-- The node above two digests that stand one after the other in a space.
+pub node_parts : {r : Digest} (xs : List ℕ) (i n : ℕ) → i + 64 ≤ length xs → n ≡ 64
+    → r ≡ tagged_hash 1 (take 32 (take n (drop i xs))) (drop 32 (take n (drop i xs))) → r ≡ node sha256 (part i 32 xs) (part (i + 32) 32 xs)
 unfolding part
-node_parts {r} xs i n k h p q e =
-    e ∙ rw (p, q) (tagged_node _ _ (part_length i 32 xs (omega arith)) (part_length (i + 32) 32 xs (omega arith)))
+node_parts {r} xs i n h q e =
+    let left : take 32 (take n (drop i xs)) ≡ take 32 (drop i xs) = take-take 32 n (drop i xs) (omega arith) in
+    let right : drop 32 (take n (drop i xs)) ≡ take 32 (drop (i + 32) xs) =
+    ap (λ (k : ℕ). drop 32 (take k (drop i xs))) q ∙ drop-take 32 32 (drop i xs) ∙ ap (take 32) (drop-drop 32 i xs) in
+    e ∙ rw (left, right) (tagged_node _ _ (part_length i 32 xs (omega arith)) (part_length (i + 32) 32 xs (omega arith)))
 
--- A digest copied out of xs.
-pub digest_read : {r : List ℕ} (d xs : List ℕ) (at n : ℕ) → length d ≡ 32 → n ≡ 32 → at + 32 ≤ length xs → r ≡ put d 0 (take n (drop at xs)) → r ≡ part at 32 xs
-unfolding part
-digest_read d xs at n e q h p =
-    let long : length (part at 32 xs) ≡ 32 = part_length at 32 xs h in
-    p ∙ ap (λ (k : ℕ). put d 0 (take k (drop at xs))) q ∙ put-fits d 0 (part at 32 xs) (omega arith) ∙ sets_all d (part at 32 xs) (long ∙ sym e)
-
--- A node's sibling, by the node's side.
-pub sibling_even : (m : ℕ) → m % 2 ≡ 0 → m + 1 ≡ sibling (m % 2) m
+-- A node's sibling is the node with the other last bit.
+xor_side : (m r : ℕ) → m % 2 ≡ r → bit_xor m 1 ≡ sibling r m
 unfolding sibling
-sibling_even m e = rw e
+xor_side m zero e =
+    let upper : bit_xor m 1 / 2 ≡ m / 2 = xor_shr m 1 1 ∙ xor_zero_r (m / 2) in
+    let lower : bit_xor m 1 % 2 ≡ 1 = xor_mod m 1 1 ∙ ap (λ (k : ℕ). bit_xor k 1) e in
+    omega arith
+xor_side m (suc zero) e =
+    let upper : bit_xor m 1 / 2 ≡ m / 2 = xor_shr m 1 1 ∙ xor_zero_r (m / 2) in
+    let lower : bit_xor m 1 % 2 ≡ 0 = xor_mod m 1 1 ∙ ap (λ (k : ℕ). bit_xor k 1) e in
+    omega arith
+xor_side m (suc (suc r)) e = absurd (omega arith)
 
-pub sibling_odd : (m : ℕ) → (m % 2 ≡ 0 → ⊥) → m - 1 ≡ sibling (m % 2) m
-unfolding sibling
-sibling_odd m e =
-    let odd : m % 2 ≡ 1 = omega arith in
-    rw odd
+pub xor_sibling : (m : ℕ) → bit_xor m 1 ≡ sibling (m % 2) m
+xor_sibling m = xor_side m (m % 2) refl

@@ -1,4 +1,4 @@
-use Prim.Native.Nat.{◌+◌, ◌^◌, ◌≤◌}
+use Prim.Native.Nat.{◌+◌, ◌-◌, ◌^◌}
 use mathlib.Core.List.{◌++◌}
 use mathlib.Core.Path.{◌≡◌}
 use lib.ListN.{length, take, drop}
@@ -7,11 +7,9 @@ use Rattle.merkle.specs.Merkle.{digests}
 use Rattle.tree.specs.Tree.{tree_size, rows}
 use Rattle.tree.proofs.hash_rows.Given as goal
 
-abbrev pub invariant-loop-above : goal.invariant-loop-above
-invariant-loop-above l = (l.above ≤ l.height)
-    × (length l.space ≡ length l.initial.space)
-    × (l.from + tree_size l.above ≡ length l.space)
-    × (take l.from l.space ++ rows sha256 l.above (digests (2 ^ l.above) (drop l.from l.space)) ≡ rows sha256 l.height (digests (2 ^ l.height) l.initial.space))
-
-abbrev pub decreases-loop-above : goal.decreases-loop-above
-decreases-loop-above l = l.above
+abbrev pub invariant-loop : goal.invariant-loop
+invariant-loop l = let left = l.end - l.counter in record {
+  width : l.count ≡ 2 ^ left;
+  room : l.from + tree_size left ≡ length l.space;
+  laid : take l.from l.space ++ rows sha256 left (digests (2 ^ left) (drop l.from l.space)) ≡ rows sha256 l.end (digests (2 ^ l.end) l.initial.space);
+}

@@ -1,51 +1,55 @@
 -- `tree::walk` meets its contract: what is stored and what is left to store are the siblings.
-use Prim.Native.Nat.{◌+◌, ◌*◌, ◌-◌, ◌<◌}
+use Prim.Native.Nat.{ℕ, suc, ◌+◌, ◌*◌, ◌-◌, ◌/◌}
+use mathlib.Core.List.{List}
+use mathlib.Core.Path.{◌≡◌, sym, ap, ◌∙◌}
 use native.Mathlib.Omega.{arith}
-use borrow.Author.Rules.{rules}
-use Rattle.tree.proofs.Rows.{sibling-fits, index_fits, next_fits, walk_turn, walk_end}
+use lib.ListN.{length, take, drop, length-drop}
+use lib.Seq.{sets}
+use Rattle.std.proofs.lemmas.List.{take_rest}
+use Rattle.tree.specs.Tree.{siblings_in}
+use Rattle.tree.proofs.TreeLaws.{xor_sibling}
+use Rattle.tree.proofs.Rows.{half_width, width_fits, sibling-fits, index_fits, next_fits, walk_turn, walk_end}
 use Rattle.tree.proofs.walk.Goals as goal
 
-pub overflow_mul-start : goal.overflow_mul-start
-overflow_mul-start c =
-    let l = c.loop-left in
-    let f = sibling-fits l.from l.left l.index _ _ (search rules) l.invariant.1.0 l.invariant.1.1 c.sibling.ensures in
-    search rules
+pub overflow_mul-sibling : goal.overflow_mul-sibling
+overflow_mul-sibling c =
+    let l = c.loop-level in
+    omega (arith, sibling-fits _ l.level l.index _ c.loop-level-test.true l.invariant.inside l.invariant.rest)
 
-pub overflow_add-start : goal.overflow_add-start
-overflow_add-start c =
-    let l = c.loop-left in
-    let f = sibling-fits l.from l.left l.index _ _ (search rules) l.invariant.1.0 l.invariant.1.1 c.sibling.ensures in
-    search rules
-
-pub overflow_add-end : goal.overflow_add-end
-overflow_add-end c =
-    let l = c.loop-left in
-    let f = sibling-fits l.from l.left l.index _ _ (search rules) l.invariant.1.0 l.invariant.1.1 c.sibling.ensures in
-    search rules
+pub overflow_add-sibling : goal.overflow_add-sibling
+overflow_add-sibling c =
+    let l = c.loop-level in
+    omega (arith, sibling-fits _ l.level l.index _ c.loop-level-test.true l.invariant.inside l.invariant.rest)
 
 pub slice_bounds-put-end : goal.slice_bounds-put-end
 slice_bounds-put-end c =
-    let l = c.loop-left in
-    let f = sibling-fits l.from l.left l.index _ _ (search rules) l.invariant.1.0 l.invariant.1.1 c.sibling.ensures in
-    search rules
+    let l = c.loop-level in
+    sibling-fits _ l.level l.index _ c.loop-level-test.true l.invariant.inside l.invariant.rest
 
-pub loop-left-preserved : goal.loop-left-preserved
-loop-left-preserved c =
-    let l = c.loop-left in
-    let more : 0 < l.left = search rules in
-    let width = c.leaves-width.ensures.0 in
-    let place = c.sibling.ensures in
-    let start = l.from + 32 * c.sibling.result in (
-      (search rules, search rules),
-      (index_fits l.left l.index more l.invariant.1.0, next_fits l.from l.left _ _ more width l.invariant.1.1),
-      (
-        omega arith,
-        walk_turn _ _ l.left l.from l.index l.to _ _ (start + 32 - start) more place width (omega arith) (omega arith)
-            (sibling-fits l.from l.left l.index _ _ more l.invariant.1.0 l.invariant.1.1 place) c.put.ensures l.invariant.2.1,
-      ),
-    )
+pub slice_bounds-row-count : goal.slice_bounds-row-count
+slice_bounds-row-count c = let l = c.loop-level in width_fits _ _ _ l.invariant.width l.invariant.rest
+
+pub slice_bounds-row-start : goal.slice_bounds-row-start
+slice_bounds-row-start c = let l = c.loop-level in omega (arith, width_fits _ _ _ l.invariant.width l.invariant.rest)
+
+pub loop-level-preserved : goal.loop-level-preserved
+loop-level-preserved c =
+    let l = c.loop-level in
+    let row = l.row.now in
+    let to = c.args.at + 32 * l.level in
+    let next = c.args.at + 32 * (l.level + 1) in
+    let d = c.args.height.levels - (l.level + 1) in
+    let more : c.args.height.levels - l.level ≡ suc d = omega arith in
+    let fits = sibling-fits _ l.level l.index _ c.loop-level-test.true l.invariant.inside l.invariant.rest in
+    let above : take (length row - 32 * l.width) (drop (32 * l.width) row) ≡ drop (32 * l.width) row = take_rest row (32 * l.width) in
+    record {
+      width = half_width _ d more l.invariant.width;
+      inside = index_fits _ d l.index more l.invariant.inside;
+      within = omega (arith, ap length above, length-drop (32 * l.width) row);
+      rest = next_fits _ d l.width row more l.invariant.width l.invariant.rest ∙ sym (ap length above);
+      put = ap (λ (x : List ℕ). sets c.put.new.buffer next (siblings_in d x (l.index / 2))) above
+          ∙ walk_turn l.buffer row _ d l.index to next _ l.width _ more (omega arith) (xor_sibling l.index) l.invariant.width (omega arith) (omega arith) fits c.put.ensures l.invariant.put;
+    }
 
 pub returns : goal.returns
-returns c =
-    let l = c.loop-left in
-    walk_end _ _ l.left l.from l.index l.to c.loop-left-test.false l.invariant.2.1
+returns c = let l = c.loop-level in walk_end _ _ _ l.index _ (omega arith) l.invariant.put
