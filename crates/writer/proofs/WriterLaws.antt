@@ -1,14 +1,17 @@
 -- The writer's tests, and the turns of its small loops. Assumes nothing.
-use Prim.Native.Nat.{ℕ, suc, ◌+◌, ◌*◌, ◌^◌, ◌-◌, ◌≤◌, ◌<◌}
-use mathlib.Core.Bool.{Bool, true, false, ◌&&◌, not, cond, false≢true}
-use mathlib.Core.List.{List}
-use mathlib.Core.Path.{◌≡◌, refl, sym, ap, ◌∙◌}
-use native.Mathlib.Numerals.{add-one}
+use Prim.Native.Nat.{ℕ, ◌*◌, ◌^◌, ◌-◌, ◌≤◌, ◌<◌}
+use mathlib.Core.Bool.{Bool, true, ◌&&◌, cond}
+use mathlib.Core.List.{List, [], ◌∷◌}
+use mathlib.Core.Path.{◌≡◌, refl, ap, ◌∙◌}
 use native.Mathlib.Omega.{arith}
-use borrow.Author.Tests.{lt-ltb, le-ltb, lt-leb, le-leb, ne_eqb, eq-eqb}
-use lib.Dec.{eqb, leb}
-use lib.ListN.{length, take, drop, get_or, drop_of_length-le}
-use lib.Seq.{drop-cons, length-take-le}
+use borrow.Author.Tests.{lt-leb, le-leb, eq-eqb}
+use lib.Dec.{eqb, leb, ltb}
+use Rattle.std.specs.List.{list_all}
+use lib.ListN.{length, take}
+use lib.Seq.{length-take-le}
+use Rattle.answer.specs.declared.Refusal.{Refusal}
+use Rattle.answer.specs.declared.Refusal.TheVariants as refusal
+use Rattle.answer.specs.Refusals.{number_of}
 use Rattle.params.specs.declared.Params.{Params}
 use Rattle.params.specs.Parameters.{file_length}
 use Rattle.params.specs.Admission.{admission}
@@ -20,25 +23,18 @@ use Rattle.polynomial.specs.Polynomial.{layer_size}
 use Rattle.writer.specs.Writer.{all_below, tested}
 
 -- The sizes at layer 0.
-pub first_count : {r : ℕ} (n : ℕ) → r ≡ 2 ^ (n - 0) → r ≡ 2 ^ n
-first_count n e = e ∙ ap (λ d. 2 ^ d) (omega arith)
+pub first_count : {r : ℕ} (p q : Params) → q ≡ p → r ≡ 2 ^ (q.n - q.b - 0) → r ≡ 2 ^ (p.n - p.b)
+first_count p q s e = e ∙ ap (λ d. 2 ^ d) (omega arith) ∙ ap (λ (x : Params). 2 ^ (x.n - x.b)) s
 
-pub first_size : {r : ℕ} (n : ℕ) → r ≡ layer_size n 0 → r ≡ 2 ^ n
+pub first_size : {r : ℕ} (p q : Params) → q ≡ p → r ≡ layer_size q.n 0 → r ≡ 2 ^ p.n
 unfolding layer_size
-first_size n e = first_count n e
+first_size p q s e = e ∙ ap (λ d. 2 ^ d) (omega arith) ∙ ap (λ (x : Params). 2 ^ x.n) s
 
--- A loop that looks for a coefficient that is not below the modulus: a turn, one found, and none found.
-pub below_turn : (l : List ℕ) (i : ℕ) → i < length l → get_or l i 0 < modulus → all_below l ≡ all_below (drop i l) → all_below l ≡ all_below (drop (i + 1) l)
+-- The test of the coefficients, as a chain has it.
+pub below_all : (l : List ℕ) → list_all (λ c. ltb c modulus) l ≡ all_below l
 unfolding all_below
-below_turn l i h b e = e ∙ ap all_below (drop-cons l i 0 h) ∙ ap (λ (t : Bool). t && all_below (drop (suc i) l)) (lt-ltb _ _ b) ∙ ap (λ (k : ℕ). all_below (drop k l)) (sym (add-one i))
-
-pub below_fails : (l : List ℕ) (i : ℕ) → i < length l → modulus ≤ get_or l i 0 → all_below l ≡ all_below (drop i l) → false ≡ all_below l
-unfolding all_below
-below_fails l i h b e = sym (e ∙ ap all_below (drop-cons l i 0 h) ∙ ap (λ (t : Bool). t && all_below (drop (suc i) l)) (le-ltb _ _ b))
-
-pub below_end : (l : List ℕ) (i : ℕ) → length l ≤ i → all_below l ≡ all_below (drop i l) → true ≡ all_below l
-unfolding all_below
-below_end l i h e = sym (e ∙ ap all_below (drop_of_length-le l {i = i} h))
+below_all [] = refl
+below_all (c ∷ l) = ap (λ t. ltb c modulus && t) (below_all l)
 
 -- The first numbers, put to the front of an array.
 pub array_front : {r : List ℕ} (d s : List ℕ) (n : ℕ) → n ≤ length d → n ≤ length s → r ≡ put d 0 (take n s) → take n r ≡ take n s
@@ -46,14 +42,25 @@ array_front d s n h k e =
     let long : length (take n s) ≡ n = length-take-le n s k in
     ap (take n) (e ∙ put-fits d 0 (take n s) (omega arith)) ∙ take-there d (take n s) n long h
 
--- What a test by `!` says of the call that it turns round.
-pub refuted : {b : Bool} (r : Bool) → r ≡ b → not r ≡ true → b ≡ false
-refuted true e h = absurd (false≢true h)
-refuted false e h = sym e
-
-pub upheld : {b : Bool} (r : Bool) → r ≡ b → not r ≡ false → b ≡ true
-upheld true e h = sym e
-upheld false e h = absurd (false≢true (sym h))
+-- No refusal has the number of success.
+pub never_open : (r : Refusal) → number_of r ≡ 0 → ⊥
+never_open refusal.ParametersNotValid e = omega arith
+never_open refusal.Closed e = omega arith
+never_open refusal.JobTooShort e = omega arith
+never_open refusal.MessageTooLong e = omega arith
+never_open refusal.InverseOfZero e = omega arith
+never_open refusal.NoSuchOpening e = omega arith
+never_open refusal.CountDiffers e = omega arith
+never_open refusal.ParametersDiffer e = omega arith
+never_open refusal.NotBelowModulus e = omega arith
+never_open refusal.PathMissesRoot e = omega arith
+never_open refusal.NotTheFoldedValue e = omega arith
+never_open refusal.MissesFinalPolynomial e = omega arith
+never_open refusal.TooFewBytes e = omega arith
+never_open refusal.ByteAfterTheEnd e = omega arith
+never_open refusal.WrongCoefficientCount e = omega arith
+never_open refusal.ScratchTooShort e = omega arith
+never_open refusal.OutputTooShort e = omega arith
 
 -- The tests in their order, as one function of what they find.
 unfoldable pub tests : ℕ → Bool → Bool → Bool → Bool → Bool → ℕ
@@ -69,35 +76,16 @@ module _ (p : Params) (f : List ℕ) (numbers bytes output : ℕ) where
   unfolding tested tests
   in_order = refl
 
-  pub not_admitted : {n : ℕ} → n ≡ admission p → ¬ (n ≡ 0) → n ≡ number
-  unfolding tests
-  not_admitted e r = rw (in_order, e, ne_eqb (admission p) 0 (λ m. r (e ∙ m)))
-
-  module _ (v : admission p ≡ 0) where
-    pub wrong_count : (length f ≡ 2 ^ (p.n - p.b) → ⊥) → 30 ≡ number
+  module _ (v : admission p ≡ 0) (count : length f ≡ 2 ^ (p.n - p.b)) (below : all_below f ≡ true) where
+    pub few-numbers : numbers < 2 * 2 ^ p.n → 31 ≡ number
     unfolding tests
-    wrong_count h = rw (in_order, v, ne_eqb _ _ h)
+    few-numbers h = rw (in_order, v, eq-eqb _ _ count, below, lt-leb _ _ h)
 
-    module _ (count : length f ≡ 2 ^ (p.n - p.b)) where
-      pub not_below : all_below f ≡ false → 22 ≡ number
+    module _ (enough : 2 * 2 ^ p.n ≤ numbers) where
+      pub few_bytes : bytes < 64 * 2 ^ p.n → 31 ≡ number
       unfolding tests
-      not_below e = rw (in_order, v, eq-eqb _ _ count, e)
+      few_bytes h = rw (in_order, v, eq-eqb _ _ count, below, le-leb _ _ enough, lt-leb _ _ h)
 
-      module _ (below : all_below f ≡ true) where
-        pub few-numbers : numbers < 2 * 2 ^ p.n → 31 ≡ number
-        unfolding tests
-        few-numbers h = rw (in_order, v, eq-eqb _ _ count, below, lt-leb _ _ h)
-
-        module _ (enough : 2 * 2 ^ p.n ≤ numbers) where
-          pub few_bytes : bytes < 64 * 2 ^ p.n → 31 ≡ number
-          unfolding tests
-          few_bytes h = rw (in_order, v, eq-eqb _ _ count, below, le-leb _ _ enough, lt-leb _ _ h)
-
-          module _ (room : 64 * 2 ^ p.n ≤ bytes) where
-            pub short-output : output < file_length p → 32 ≡ number
-            unfolding tests
-            short-output h = rw (in_order, v, eq-eqb _ _ count, below, le-leb _ _ enough, le-leb _ _ room, lt-leb _ _ h)
-
-            pub none_fails : file_length p ≤ output → 0 ≡ number
-            unfolding tests
-            none_fails h = rw (in_order, v, eq-eqb _ _ count, below, le-leb _ _ enough, le-leb _ _ room, le-leb _ _ h)
+      pub none_fails : 64 * 2 ^ p.n ≤ bytes → file_length p ≤ output → 0 ≡ number
+      unfolding tests
+      none_fails room h = rw (in_order, v, eq-eqb _ _ count, below, le-leb _ _ enough, le-leb _ _ room, le-leb _ _ h)

@@ -55,9 +55,6 @@ passed p f numbers bytes output e =
           output_fits = leb-true _ _ e₆;
         }
 
-pub passed_by : {r : ℕ} (p : Params) (f : List ℕ) (numbers bytes output : ℕ) → r ≡ tested p f numbers bytes output → r ≡ 0 → Passed p f numbers bytes output
-passed_by p f numbers bytes output e z = passed p f numbers bytes output (sym e ∙ z)
-
 -- A file's length is a place.
 pub length-small : (p : Params) → Valid p → file_length p < 4294967296
 unfolding file_length

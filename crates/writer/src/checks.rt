@@ -1,49 +1,48 @@
 // The writer's tests, in their order.
-ghost use Rattle.std.specs.Prelude.{◌≡◌};
+ghost use Rattle.std.specs.Prelude.{◌≡◌, IfOk};
+ghost use Rattle.answer.specs.Refusals.{number_in};
 ghost use Rattle.writer.specs.Writer as spec;
 
+use answer::Refusal;
 use felt::Felt;
-use params::Params;
+use params::{Params, ValidParams};
+use writer_layers::layer::Layer;
 
 // Whether every coefficient is below the modulus.
 fn all_below(coefficients: &[u32]) -> bool
     ensures { result ≡ spec.all_below coefficients.now }
 {
-    let mut i = 0;
-    while i < coefficients.len() {
-        if Felt::MODULUS <= coefficients[i] {
-            return false;
-        }
-        i += 1;
-    }
-    true
+    coefficients.iter().all(|c| *c < Felt::MODULUS)
 }
 
-pub fn tested(p: Params, coefficients: &[u32], numbers: usize, bytes: usize, output: usize) -> u8
-    ensures { result ≡ spec.tested p coefficients.now numbers bytes output }
+#[tactic(auto, using(crate::proofs::WriterLaws::first_count, crate::proofs::WriterLaws::first_size, params::proofs::ParameterLaws::from_valid), unfolding(crate::specs::Writer::tested))]
+pub fn tested(
+    p: Params,
+    coefficients: &[u32],
+    numbers: usize,
+    bytes: usize,
+    output: usize,
+) -> Result<ValidParams, Refusal>
+    ensures number { number_in result ≡ spec.tested p coefficients.now numbers bytes output }
+    ensures ok { IfOk result (λ v. v.params ≡ p) }
 {
-    let admission = params::admission(p);
-    if admission != answer::OPEN {
-        return admission;
-    }
-    if coefficients.len() != writer_layers::sizes::count_of(p, 0) {
-        return answer::WRONG_COEFFICIENT_COUNT;
+    let valid = params::admitted(p)?;
+    let first = Layer { valid, number: 0 };
+    if coefficients.len() != first.count() {
+        return Err(Refusal::WrongCoefficientCount);
     }
     if !all_below(coefficients) {
-        return answer::NOT_BELOW_MODULUS;
+        return Err(Refusal::NotBelowModulus);
     }
-    let size = writer_layers::sizes::size_of(p, 0);
+    let size = first.size();
     let length = params::file_length(p);
     let numbers_needed = 2 * size;
     let bytes_needed = 64 * size;
-    if numbers < numbers_needed {
-        return answer::SCRATCH_TOO_SHORT;
-    }
-    if bytes < bytes_needed {
-        return answer::SCRATCH_TOO_SHORT;
+    if numbers < numbers_needed || bytes < bytes_needed {
+        return Err(Refusal::ScratchTooShort);
     }
     if output < length {
-        return answer::OUTPUT_TOO_SHORT;
+        return Err(Refusal::OutputTooShort);
     }
-    answer::OPEN
+    Ok(valid)
 }

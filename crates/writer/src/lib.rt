@@ -25,23 +25,24 @@ pub fn write(
     ensures numbers_after { numbers.new ≡ (spec.written sha256 p context coefficients.now numbers.old bytes.old output.old).numbers }
     ensures bytes_after { bytes.new ≡ (spec.written sha256 p context coefficients.now numbers.old bytes.old output.old).bytes }
 {
-    let number = checks::tested(p, coefficients, numbers.len(), bytes.len(), output.len());
-    if number == answer::OPEN {
-        let length = params::file_length(p);
-        sections::file(
-            p,
-            context,
-            coefficients,
-            numbers,
-            bytes,
-            &mut output[..length],
-        );
-        buffer::clear(numbers);
-        buffer::clear(bytes);
-        return Answer {
-            number,
-            place: length as u32,
-        };
+    match checks::tested(p, coefficients, numbers.len(), bytes.len(), output.len()) {
+        Ok(valid) => {
+            let length = params::file_length(p);
+            sections::file(
+                valid,
+                context,
+                coefficients,
+                numbers,
+                bytes,
+                &mut output[..length],
+            );
+            buffer::clear(numbers);
+            buffer::clear(bytes);
+            Answer {
+                number: answer::OPEN,
+                place: length as u32,
+            }
+        }
+        Err(refusal) => refusal.at(0),
     }
-    Answer { number, place: 0 }
 }

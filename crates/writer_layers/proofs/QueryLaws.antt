@@ -33,18 +33,18 @@ use Rattle.tree.proofs.Rows.{siblings-length, size_yes}
 use Rattle.writer_model.specs.Buffers.{values_in, leaf_in, opening_in, query_in, queries_in, tree_start}
 use Rattle.writer_layers.proofs.LayerLaws.{values_here, tree_here, tree_full}
 
--- A loop that puts the values of a leaf, in 4 bytes each: none, one more, and all.
+-- A loop that puts the values of a leaf, in 4 bytes each: none, and one more.
 pub values_none : (l values : List ℕ) (at count m : ℕ) → l ≡ sets l at (words (values_of 0 count values m))
 unfolding values_of tabulate words joined
 values_none l values at count m = refl
 
-pub values-more : {d e : List ℕ} (l values : List ℕ) (at count m from r : ℕ) → from ≡ m + r * count → d ≡ sets l at (words (values_of r count values m))
-    → e ≡ put d (at + 4 * r) (le 4 (get_or values from 0)) → at + 4 * r + 4 ≤ length d → e ≡ sets l at (words (values_of (r + 1) count values m))
+pub values-more : {d e : List ℕ} (l values : List ℕ) (at count m r : ℕ) → d ≡ sets l at (words (values_of r count values m))
+    → e ≡ put d (at + 4 * r) (le 4 (get_or values (m + r * count) 0)) → at + 4 * r + 4 ≤ length d → e ≡ sets l at (words (values_of (r + 1) count values m))
 unfolding values_of
-values-more {d} {e} l values at count m from r here p q fits =
+values-more {d} {e} l values at count m r p q fits =
     q
-    ∙ put-fits d (at + 4 * r) _ (omega (arith, le-length 4 (get_or values from 0)))
-    ∙ ap₂ (λ x y. sets x (at + 4 * r) (le 4 (get_or values y 0))) p here
+    ∙ put-fits d (at + 4 * r) _ (omega (arith, le-length 4 (value r)))
+    ∙ ap (λ x. sets x (at + 4 * r) (le 4 (value r))) p
     ∙ sets_behind l (words (tabulate r value)) (le 4 (value r)) at (at + 4 * r) (omega (arith, words-length (tabulate r value), tabulate-length r value))
     ∙ ap (sets l at) (sym next)
   where
@@ -56,11 +56,7 @@ values-more {d} {e} l values at count m from r here p q fits =
         ap (λ k. words (tabulate k value)) (add-one r)
         ∙ ap words (tabulate_snoc r value)
         ∙ words_append (tabulate r value) (value r ∷ [])
-        ∙ ap (λ x. words (tabulate r value) ++ x) (words-one (value r))
-
-pub values-done : {d : List ℕ} {per : ℕ} (l values : List ℕ) (at count m r : ℕ) → r ≡ per → d ≡ sets l at (words (values_of r count values m))
-    → d ≡ sets l at (words (values_of per count values m))
-values-done l values at count m r e p = p ∙ ap (λ k. sets l at (words (values_of k count values m))) e
+        ∙ ap (λ z. words (tabulate r value) ++ z) (words-one (value r))
 
 -- The values of a leaf and its path, put one after the other, are an opening.
 module _ (p : Params) (j m : ℕ) (v : Valid p) (h : j < p.k) (inside : m < leaf_count p j) (numbers bytes : List ℕ) (long : 2 * 2 ^ p.n ≤ length numbers)

@@ -1,6 +1,7 @@
-// The writer's layers, and the openings of its queries, in lent scratch. For the crate `writer` alone: the functions require what its tests have found.
+// The writer's layers, and the openings of its queries, in lent scratch. For the crate `writer` alone: what its tests have found is in the types, or
+// required.
 #![tactic(auto)]
 
+pub mod layer;
 pub mod layers;
 pub mod queries;
-pub mod sizes;

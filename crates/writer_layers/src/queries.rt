@@ -3,82 +3,94 @@ ghost use Rattle.std.specs.Prelude.{◌≡◌, ◌+◌, ◌*◌, ◌^◌, ◌≤
 ghost use Rattle.std.proofs.lemmas.List.Edits.{sets};
 ghost use Rattle.sha256.specs.Sha256.{sha256};
 ghost use Rattle.message.specs.Bytes.{words};
-ghost use Rattle.params.specs.Parameters.{Valid, leaf_count, opening_length, query_length};
+ghost use Rattle.params.specs.Parameters.{leaf_count, opening_length, query_length};
 ghost use Rattle.tree.specs.Tree.{values_of};
 ghost use Rattle.writer_model.specs.Buffers as spec;
 
-use params::Params;
+use crate::layer::Layer;
+use params::ValidParams;
 use transcript::Transcript;
+
+// The scratch that the layers have left their values and their trees in.
+#[derive(Clone, Copy)]
+pub struct Committed<'a> {
+    pub valid: ValidParams,
+    pub numbers: &'a [u32],
+    pub bytes: &'a [u8],
+    pub ghost numbers_fit: { 2 * 2 ^ valid.params.n ≤ length numbers.now },
+    pub ghost bytes_fit: { 64 * 2 ^ valid.params.n ≤ length bytes.now },
+}
 
 // The values of leaf m, where so many leaves have so many values each, in 4 bytes each.
 fn put_values(per: usize, count: usize, values: &[u32], m: usize, file: &mut [u8], at: usize)
     requires { ((m < count) × (count ≤ 1073741824)) × ((length values.now ≡ per * count) × (at + 4 * per ≤ length file.old)) }
     ensures { file.new ≡ sets file.old at (words (values_of per count values.now m)) }
 {
-    let mut from = m;
-    let mut r = 0;
-    while r < per {
-        message::put_number(file, at + 4 * r, values[from]);
-        from += count;
-        r += 1;
+    for r in 0..per {
+        message::put_number(file, at + 4 * r, values[m + r * count]);
     }
 }
 
-// The opening of a leaf of a layer.
-fn opening(p: Params, layer: u8, m: u32, numbers: &[u32], bytes: &[u8], file: &mut [u8], at: usize)
-    requires { (Valid p × ((layer < p.k) × (m < leaf_count p layer))) × ((2 * 2 ^ p.n ≤ length numbers.now) × ((64 * 2 ^ p.n ≤ length bytes.now) × (at + opening_length p layer ≤ length file.old))) }
-    ensures { file.new ≡ sets file.old at (spec.opening_in p layer m numbers.now bytes.now) }
-{
-    let size = crate::sizes::size_of(p, layer);
-    let count = crate::sizes::leaves_of(p, layer);
-    let leaf = m as usize;
-    let end = 2 * size;
-    let from = 32 * size;
-    let to = from + 64 * count - 32;
-    put_values(
-        params::values_per_leaf(p),
-        count,
-        &numbers[size..end],
-        leaf,
-        file,
-        at,
-    );
-    let height = crate::sizes::height_of(p, layer);
-    tree::put_path(
-        &bytes[from..to],
-        height,
-        leaf,
-        file,
-        at + params::leaf_length(p),
-    );
-}
-
-// The openings of the query whose leaf in layer 0 is m.
-fn query(p: Params, m: u32, numbers: &[u32], bytes: &[u8], file: &mut [u8], at: usize)
-    requires { Valid p × ((2 * 2 ^ p.n ≤ length numbers.now) × ((64 * 2 ^ p.n ≤ length bytes.now) × (at + query_length p 0 p.k ≤ length file.old))) }
-    ensures { file.new ≡ sets file.old at (spec.query_in p m numbers.now bytes.now) }
-{
-    let mut to = at;
-    let mut j = 0;
-    while j < p.k {
-        let leaf = domain::leaf_of(p.n, j, m);
-        opening(p, j, leaf, numbers, bytes, file, to);
-        to += params::opening_length(p, j);
-        j += 1;
+impl Committed<'_> {
+    // The opening of a leaf of a layer.
+    fn opening(&self, number: u8, m: u32, file: &mut [u8], at: usize)
+        requires layer_in { number < self.now.valid.params.k }
+        requires leaf_in { m < leaf_count self.now.valid.params number }
+        requires room { at + opening_length self.now.valid.params number ≤ length file.old }
+        ensures { file.new ≡ sets file.old at (spec.opening_in self.now.valid.params number m self.now.numbers.now self.now.bytes.now) }
+    {
+        let p = self.valid.params;
+        let layer = Layer {
+            valid: self.valid,
+            number,
+        };
+        let size = layer.size();
+        let count = layer.leaves();
+        let leaf = m as usize;
+        let from = 32 * size;
+        let to = from + 64 * count - 32;
+        put_values(
+            params::values_per_leaf(p),
+            count,
+            &self.numbers[size..2 * size],
+            leaf,
+            file,
+            at,
+        );
+        tree::put_path(
+            &self.bytes[from..to],
+            layer.height(),
+            leaf,
+            file,
+            at + params::leaf_length(p),
+        );
     }
-}
 
-// All queries.
-pub fn queries(p: Params, s: Transcript, numbers: &[u32], bytes: &[u8], file: &mut [u8], at: usize)
-    requires { Valid p × ((2 * 2 ^ p.n ≤ length numbers.now) × ((64 * 2 ^ p.n ≤ length bytes.now) × (at + p.q * query_length p 0 p.k ≤ length file.old))) }
-    ensures { file.new ≡ sets file.old at (spec.queries_in p sha256 s.state numbers.now bytes.now) }
-{
-    let size = params::query_length(p, p.k);
-    let mut to = at;
-    let mut i = 0;
-    while i < p.q {
-        query(p, s.draw(p, i), numbers, bytes, file, to);
-        to += size;
-        i += 1;
+    // The openings of the query whose leaf in layer 0 is m.
+    fn query(&self, m: u32, file: &mut [u8], at: usize)
+        requires { at + query_length self.now.valid.params 0 self.now.valid.params.k ≤ length file.old }
+        ensures { file.new ≡ sets file.old at (spec.query_in self.now.valid.params m self.now.numbers.now self.now.bytes.now) }
+    {
+        let p = self.valid.params;
+        let mut to = at;
+        for number in 0..p.k {
+            let leaf = domain::leaf_of(p.n, number, m);
+            self.opening(number, leaf, file, to);
+            to += params::opening_length(p, number);
+        }
+    }
+
+    // All queries.
+    pub fn queries(&self, s: Transcript, file: &mut [u8], at: usize)
+        requires { at + self.now.valid.params.q * query_length self.now.valid.params 0 self.now.valid.params.k ≤ length file.old }
+        ensures { file.new ≡ sets file.old at (spec.queries_in self.now.valid.params sha256 s.state self.now.numbers.now self.now.bytes.now) }
+    {
+        let p = self.valid.params;
+        let size = params::query_length(p, p.k);
+        let mut to = at;
+        for i in 0..p.q {
+            self.query(s.draw(p, i), file, to);
+            to += size;
+        }
     }
 }

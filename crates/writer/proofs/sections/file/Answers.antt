@@ -8,20 +8,19 @@ pub head-requires : goal.head-requires
 unfolding file_length queries_offset
 head-requires c = omega (arith, c.requires)
 
-pub layers-committed-requires : goal.layers-committed-requires
+pub layers-layered-requires : goal.layers-layered-requires
 unfolding file_length queries_offset
-layers-committed-requires c = (c.requires.0, (omega (arith, c.requires, c.put.auto), (omega (arith, c.requires), omega (arith, c.requires, c.head.auto))))
+layers-layered-requires c = (omega (arith, c.requires, c.put.auto), (omega (arith, c.requires), omega (arith, c.requires, c.head.auto)))
 
 pub finish-finished-requires : goal.finish-finished-requires
 unfolding file_length
 finish-finished-requires c =
-    let a = c.args in
-    (c.requires.0, (final_inside a.p c.layers-committed.new.numbers (omega (arith, c.requires, c.put.auto, c.layers-committed.auto)), omega (arith, c.requires, c.head.auto, c.layers-committed.auto)))
+    (final_inside c.args.valid.params c.layers-layered.new.numbers (omega (arith, c.requires, c.put.auto, c.layers-layered.auto)), omega (arith, c.requires, c.head.auto, c.layers-layered.auto))
 
 pub returns : goal.returns
 returns c =
     let a = c.args in
     let h = c.requires in
-    let l = c.layers-committed.ensures in
+    let l = c.layers-layered.ensures in
     let f = c.finish-finished.ensures in
-    file-left a.p a.context a.coefficients.now a.numbers.now a.bytes.now a.file.now h.0 h.1.0 h.1.1.0 h.1.1.1.0 h.1.1.1.1 c.put.ensures c.head.ensures c.start.ensures l.state_value l.numbers_after l.bytes_after l.file_after f.state_value f.file_after c.openings.ensures
+    file-left a.valid.params a.context a.coefficients.now a.numbers.now a.bytes.now a.file.now a.valid.valid h.0 h.1.0 h.1.1.0 h.1.1.1 c.put.ensures c.head.ensures c.start-start.ensures l.state_value l.numbers_after l.bytes_after l.file_after f.state_value f.file_after c.openings.ensures

@@ -4,8 +4,7 @@ use Rattle.writer_layers.proofs.layers.hash_layer.Goals as goal
 
 pub returns : goal.returns
 returns c =
-    let s = c in
-    let a = s.args in
+    let a = c.args.layer in
     let b = c.build.ensures in
-    let r = layer-hashed a.p a.layer s.requires.0.0 s.requires.0.1 a.values.now a.space.now s.requires.1.0 s.requires.1.1 c.values_per_leaf.ensures c.height_of-height.ensures.0 c.hash_leaves.ensures b.value b.space_after in
+    let r = layer-hashed a.valid.params a.number a.valid.valid a.within c.args.values.now c.args.space.now c.requires.0 c.requires.1 c.values_per_leaf-per.ensures c.height-height.ensures.0 c.hash_leaves.ensures b.value b.space_after in
     record { value = r.0; space_after = r.1 }

@@ -1,0 +1,9 @@
+-- `writer_layers::layer::Layer::count` meets its contract.
+use native.Mathlib.Omega.{arith}
+use Rattle.binary.proofs.BinaryLaws.{power_made}
+use Rattle.writer_layers.proofs.layer.Layer.count.Goals as goal
+
+pub returns : goal.returns
+returns c =
+    let count = power_made _ (omega arith) c.power_of_two.ensures in
+    (count.0, count.1.1)
