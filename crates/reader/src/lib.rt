@@ -2,18 +2,21 @@
 // at an item's last byte. Every function equals its definition in the crate below, with SHA-256 for the hash.
 #![tactic(auto)]
 
-ghost use Rattle.std.specs.Prelude.{◌≡◌, cond, ◌+◌, ◌<◌, ltb, length};
+ghost use Rattle.std.specs.Prelude.{◌≡◌, ◌+◌, ltb};
 ghost use Rattle.sha256.specs.Sha256.{sha256};
-ghost use Rattle.reader_model.specs.State.{item_length, closed_state, tables, whole};
-ghost use Rattle.answer.specs.Table.{open_so_far, accepted, too_few_bytes};
-ghost use Rattle.reader_model.specs.Model.{is_stopped, is_tail, open_answer, started, replied, pieced, ends_inside, filled_item, ended, opened};
+ghost use Rattle.reader_model.specs.State.{item_length, closed_state, whole};
+ghost use Rattle.answer.specs.Table.{open_so_far};
+ghost use Rattle.reader_model.specs.Model.{is_stopped, open_answer, started, replied, pieced, ends_inside, filled_item, ended, opened};
 
-use answer::Answer;
+use answer::{Answer, Refusal};
 use params::{Params, Terms};
-use reader_model::{CHALLENGES, COEFFICIENTS, Core, Progress, ROOTS, Reader, Reply, Stage, Tables};
+use reader_model::{
+    CHALLENGES, COEFFICIENTS, Core, Cursor, Progress, ROOTS, Reader, Reply, Stage, Tables, Walk,
+};
 use transcript::Transcript;
 
 // A piece: its answer, and the small part of the state after it; the tables are lent and changed in place.
+#[tactic(auto, unfolding(reader_model::specs::Model::pieced))]
 pub fn piece_in_place(
     core: Core,
     roots: &mut [u8; ROOTS],
@@ -25,10 +28,7 @@ pub fn piece_in_place(
 {
     let next = reader_pieces::feed(core, roots, challenges, coefficients, bytes);
     let answer = reader_items::state::answer_of(next, answer::OPEN);
-    Progress {
-        answer: answer,
-        core: next,
-    }
+    Progress { answer, core: next }
 }
 
 // Whether a piece of n bytes ends inside the current item, so that nothing is decided.
@@ -36,22 +36,21 @@ fn ends_inside(stage: Stage, fill: usize, n: usize) -> bool
     ensures { result ≡ ltb (fill + n) (item_length stage) }
 {
     let need = reader_items::state::item_length(stage);
-    if n < need { fill < need - n } else { false }
+    n < need && fill < need - n
 }
 
 // A piece that ends inside the current item touches nothing but the item's buffer, which is lent: whether this is such a piece. Any other is left to be
 // read. Small pieces are common where bytes come off the wire.
+#[tactic(auto, unfolding(reader_model::specs::Model::filled_item))]
 pub fn fill_item(stage: Stage, fill: usize, item: &mut [u8; 32], bytes: &[u8]) -> bool
     ensures inside { result ≡ ends_inside stage fill bytes.now }
     ensures item { item.new ≡ filled_item stage fill item.old bytes.now }
 {
-    let length = bytes.len();
-    if ends_inside(stage, fill, length) {
-        reader_pieces::gather(item, fill, bytes, length);
-        true
-    } else {
-        false
+    let inside = ends_inside(stage, fill, bytes.len());
+    if inside {
+        reader_pieces::gather(item, fill, bytes);
     }
+    inside
 }
 
 // The answer of an open reader, of its item's start and fill.
@@ -79,60 +78,42 @@ pub fn closed() -> Reader
 pub fn piece(state: Reader, bytes: &[u8]) -> Reply
     ensures { result ≡ pieced sha256 state bytes.now }
 {
-    let core = state.core;
-    let tables = state.tables;
-    let mut roots = tables.roots;
-    let mut challenges = tables.challenges;
-    let mut coefficients = tables.coefficients;
-    let progress = piece_in_place(core, &mut roots, &mut challenges, &mut coefficients, bytes);
-    let answer = progress.answer;
+    let mut tables = state.tables;
+    let progress = piece_in_place(
+        state.core,
+        &mut tables.roots,
+        &mut tables.challenges,
+        &mut tables.coefficients,
+        bytes,
+    );
     let next = progress.core;
     Reply {
-        answer: answer,
-        state: Reader {
-            core: next,
-            tables: Tables {
-                roots: roots,
-                challenges: challenges,
-                coefficients: coefficients,
-            },
-        },
-    }
-}
-
-// The number of an open reader's end call.
-fn end_number(stage: Stage) -> u8
-    ensures { result ≡ cond (is_tail stage) accepted too_few_bytes }
-{
-    if reader_items::state::is_tail(stage) {
-        answer::ACCEPTED
-    } else {
-        answer::TOO_FEW_BYTES
+        answer: progress.answer,
+        state: Reader { core: next, tables },
     }
 }
 
 // The end call: it leaves the closed state.
+#[tactic(auto, unfolding(reader_model::specs::Model::ended))]
 pub fn end(state: Reader) -> Reply
     ensures { result ≡ ended state }
 {
-    let core = state.core;
-    let stage = core.stage;
-    let number = end_number(stage);
-    let answer = reader_items::state::answer_of(core, number);
-    let closed = reader_items::state::closed_state();
+    let number = if reader_items::state::is_tail(state.core.stage) {
+        answer::ACCEPTED
+    } else {
+        Refusal::TooFewBytes.number()
+    };
     Reply {
-        answer: answer,
-        state: closed,
+        answer: reader_items::state::answer_of(state.core, number),
+        state: reader_items::state::closed_state(),
     }
 }
 
 // The state before any byte, from the transcript's first state.
+#[tactic(auto, unfolding(reader_model::specs::Model::started))]
 fn start(p: Params, transcript: [u8; 32]) -> Reader
     ensures { result ≡ started p transcript }
 {
-    let cursor = reader_items::state::no_cursor();
-    let walk = reader_items::state::no_walk();
-    let tables = reader_items::state::no_tables();
     let core = Core {
         stage: Stage::ParameterCount,
         answer: Answer {
@@ -140,44 +121,34 @@ fn start(p: Params, transcript: [u8; 32]) -> Reader
             place: 0,
         },
         fill: 0,
-        item: [0u8; 32],
+        item: [0; 32],
         params: p,
-        cursor: cursor,
-        walk: walk,
-        transcript: transcript,
+        cursor: Cursor::default(),
+        walk: Walk::default(),
+        transcript,
     };
     Reader {
-        core: core,
-        tables: tables,
+        core,
+        tables: Tables::default(),
     }
 }
 
 // The opening.
+#[tactic(auto, unfolding(reader_model::specs::Model::opened))]
 pub fn open(a: Terms) -> Reply
     ensures { result ≡ opened sha256 a }
 {
-    let p = a.params;
-    let number = params::admission(p);
-    if number == answer::OPEN {
-        let context = a.context;
-        let first = Transcript::start(p, context);
-        let transcript = first.state;
-        let state = start(p, transcript);
-        Reply {
+    match params::admitted(a.params) {
+        Ok(_) => Reply {
             answer: Answer {
                 number: answer::OPEN,
                 place: 0,
             },
-            state: state,
-        }
-    } else {
-        let state = reader_items::state::closed_state();
-        Reply {
-            answer: Answer {
-                number: number,
-                place: 0,
-            },
-            state: state,
-        }
+            state: start(a.params, Transcript::start(a.params, a.context).state),
+        },
+        Err(refusal) => Reply {
+            answer: refusal.at(0),
+            state: reader_items::state::closed_state(),
+        },
     }
 }

@@ -1,6 +1,6 @@
-// What each item of a file does to the reader's state, up to the queries. For the crates `reader_queries` and `reader` alone: some functions require
-// what `reader::advance` has tested.
+// What each item of a file does to the reader's state, up to the queries. For the crates `reader_queries`, `reader_pieces` and `reader` alone.
 #![tactic(auto)]
 
+pub mod sane;
 pub mod sections;
 pub mod state;

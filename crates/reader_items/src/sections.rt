@@ -1,168 +1,145 @@
 // What the items before the queries do: counts, parameters, roots, final coefficients.
-ghost use Rattle.std.specs.Prelude.{◌≡◌, ◌+◌, ◌*◌, ◌<◌, take};
-ghost use Rattle.std.proofs.lemmas.List.Edits.{sets};
+ghost use Rattle.std.specs.Prelude.{◌≡◌};
 ghost use Rattle.sha256.specs.Sha256.{sha256};
-ghost use Rattle.params.specs.Parameters.{header_size, header};
-ghost use Rattle.transcript.specs.Transcript.{absorb_final};
-ghost use Rattle.fri.specs.Judge.{same_bytes};
-ghost use Rattle.reader_model.specs.Items.{after_count, after_parameters, after_root, roots_after, challenges_after, after_coefficient, coefficients_after, at_query, after_query_count};
-ghost use Rattle.reader_items.specs.Private.{Sane};
+ghost use Rattle.reader_model.specs.Items.{at_layer, after_count, after_parameters, after_root, roots_after, challenges_after, after_coefficient, coefficients_after, at_query, after_query_count};
 
-use crate::state::{moved, refuse};
+use crate::sane::SaneCore;
+use answer::Refusal;
 use felt::Felt;
-use params::Params;
-use reader_model::{CHALLENGES, COEFFICIENTS, Core, ROOTS, Stage};
+use reader_model::{CHALLENGES, COEFFICIENTS, Core, Cursor, ROOTS, Stage, Walk};
 use transcript::Transcript;
 
 // The wanted count comes from the parameters, never from the file.
-pub fn after_count(c: Core, want: usize, stage: Stage) -> Core
-    requires { Sane c }
-    ensures { result ≡ after_count c want stage }
+#[tactic(auto, unfolding(reader_model::specs::Items::after_count))]
+pub fn after_count(c: SaneCore, want: usize, stage: Stage) -> Core
+    ensures { result ≡ after_count c.core want stage }
 {
-    let item = c.item;
-    let count = message::first_count(item);
+    let count = message::first_count(c.core.item);
     if count as usize == want {
-        moved(c, stage)
+        c.moved(stage)
     } else {
-        refuse(c, answer::COUNT_DIFFERS)
+        c.refused(Refusal::CountDiffers)
     }
 }
 
-// Whether the item's first bytes are the caller's parameters.
-fn same_parameters(item: [u8; 32], p: Params) -> bool
-    ensures { result ≡ same_bytes (take header_size item) (header p) }
+// The item's first bytes must be the caller's parameters.
+#[tactic(auto, using(crate::proofs::Bytes::begins_with_header), unfolding(reader_model::specs::Items::after_parameters))]
+pub fn after_parameters(c: SaneCore) -> Core
+    ensures { result ≡ after_parameters c.core }
 {
-    let bytes = params::header(p);
-    let mut i = 0;
-    while i < params::HEADER_SIZE {
-        if item[i] != bytes[i] {
-            return false;
-        }
-        i += 1;
-    }
-    true
-}
-
-pub fn after_parameters(c: Core) -> Core
-    requires { Sane c }
-    ensures { result ≡ after_parameters c }
-{
-    let item = c.item;
-    let params = c.params;
-    if same_parameters(item, params) {
-        moved(c, Stage::RootCount)
+    if c.core.item.starts_with(&params::header(c.core.params)) {
+        c.moved(Stage::RootCount)
     } else {
-        refuse(c, answer::PARAMETERS_DIFFER)
+        c.refused(Refusal::ParametersDiffer)
     }
 }
 
-// A root goes to its layer's place.
-fn put_root(roots: &mut [u8; ROOTS], layer: usize, root: [u8; 32])
-    requires { layer < 16 }
-    ensures { roots.new ≡ sets roots.old (32 * layer) root }
+// At a layer's first value and height.
+pub fn at_layer(c: Core, layer: u8) -> Core
+    ensures { result ≡ at_layer c layer }
 {
-    buffer::put(roots, 32 * layer, &root);
+    Core {
+        cursor: Cursor {
+            layer,
+            value: 0,
+            height: 0,
+            ..c.cursor
+        },
+        ..c
+    }
 }
 
 // A root is absorbed before its challenge is drawn; both are kept.
-pub fn after_root(c: Core, roots: &mut [u8; ROOTS], challenges: &mut [u32; CHALLENGES]) -> Core
-    requires { Sane c }
-    ensures core { result ≡ after_root sha256 c }
-    ensures roots { roots.new ≡ roots_after sha256 c roots.old }
-    ensures challenges { challenges.new ≡ challenges_after sha256 c challenges.old }
+#[tactic(auto, using(crate::proofs::Laws::root_fits), unfolding(reader_model::specs::Items::after_root, reader_model::specs::Items::roots_after, reader_model::specs::Items::challenges_after, reader_model::specs::Items::root_state))]
+pub fn after_root(c: SaneCore, roots: &mut [u8; ROOTS], challenges: &mut [u32; CHALLENGES]) -> Core
+    ensures core { result ≡ after_root sha256 c.core }
+    ensures roots { roots.new ≡ roots_after sha256 c.core roots.old }
+    ensures challenges { challenges.new ≡ challenges_after sha256 c.core challenges.old }
 {
-    let root = c.item;
-    let before = c.transcript;
+    let root = c.core.item;
+    let before = c.core.transcript;
     let absorbed = lent_transcript::layer(Transcript { state: before }, root);
+    let layer = c.core.cursor.layer as usize;
+    buffer::put(roots, 32 * layer, &root);
+    challenges[layer] = absorbed.challenge;
     let transcript = absorbed.state;
-    let challenge = absorbed.challenge;
-    let layer = c.cursor.layer;
-    let at = layer as usize;
-    put_root(roots, at, root);
-    challenges[at] = challenge;
     let mut next = c;
-    next.transcript = transcript;
-    next.cursor.value = 0;
-    next.cursor.height = 0;
-    let above = layer + 1;
-    if above < c.params.k {
-        next.cursor.layer = above;
-        moved(next, Stage::Root)
+    next.core.transcript = transcript;
+    let above = c.core.cursor.layer + 1;
+    if above < c.core.params.k {
+        at_layer(next.moved(Stage::Root), above)
     } else {
-        next.cursor.layer = 0;
-        moved(next, Stage::CoefficientCount)
+        at_layer(next.moved(Stage::CoefficientCount), 0)
     }
-}
-
-// The transcript after the first count of the coefficients.
-fn absorbed_final(state: [u8; 32], coefficients: [u32; COEFFICIENTS], count: usize) -> [u8; 32]
-    ensures { result ≡ absorb_final sha256 state (take count coefficients) }
-{
-    lent_transcript::finish(Transcript { state: state }, coefficients, count)
 }
 
 // A final coefficient is kept; after the last one all are absorbed, and the queries can be drawn.
-pub fn after_coefficient(c: Core, coefficients: &mut [u32; COEFFICIENTS]) -> Core
-    requires { Sane c }
-    ensures core { result ≡ after_coefficient sha256 c coefficients.old }
-    ensures coefficients { coefficients.new ≡ coefficients_after sha256 c coefficients.old }
+#[tactic(auto, unfolding(reader_model::specs::Items::after_coefficient, reader_model::specs::Items::coefficients_after))]
+pub fn after_coefficient(c: SaneCore, coefficients: &mut [u32; COEFFICIENTS]) -> Core
+    ensures core { result ≡ after_coefficient sha256 c.core coefficients.old }
+    ensures coefficients { coefficients.new ≡ coefficients_after sha256 c.core coefficients.old }
 {
-    let item = c.item;
-    let value = message::first_number(item);
+    let value = message::first_number(c.core.item);
     if Felt::MODULUS <= value {
-        return refuse(c, answer::NOT_BELOW_MODULUS);
+        return c.refused(Refusal::NotBelowModulus);
     }
-    let at = c.cursor.coefficient;
+    let at = c.core.cursor.coefficient;
     coefficients[at] = value;
-    let params = c.params;
-    let count = params::final_count(params);
-    let mut next = c;
+    let count = params::final_count(c.core.params);
     let after = at + 1;
     if after < count {
+        let mut next = c.moved(Stage::Coefficient);
         next.cursor.coefficient = after;
-        moved(next, Stage::Coefficient)
+        next
     } else {
-        let before = c.transcript;
-        let all = *coefficients;
-        let transcript = absorbed_final(before, all, count);
+        let before = c.core.transcript;
+        let transcript = lent_transcript::finish(
+            Transcript { state: before },
+            *coefficients,
+            count,
+        );
+        let mut next = c.moved(Stage::QueryCount);
         next.transcript = transcript;
         next.cursor.coefficient = 0;
-        moved(next, Stage::QueryCount)
+        next
     }
 }
 
 // The walk of a query begins at its drawn index.
+#[tactic(auto, unfolding(reader_model::specs::Items::at_query))]
 pub fn at_query(c: Core, query: u8) -> Core
     ensures { result ≡ at_query sha256 c query }
 {
     let state = c.transcript;
-    let params = c.params;
-    let index = Transcript { state: state }.draw(params, query);
-    let mut walk = c.walk;
-    walk.index = index;
-    walk.position = 0;
-    walk.scale = 0;
-    walk.folded = 0;
-    let mut next = c;
-    next.walk = walk;
-    next.cursor.query = query;
-    next.cursor.layer = 0;
-    next.cursor.value = 0;
-    next.cursor.height = 0;
-    next
+    let index = Transcript { state }.draw(c.params, query);
+    Core {
+        cursor: Cursor {
+            query,
+            layer: 0,
+            value: 0,
+            height: 0,
+            ..c.cursor
+        },
+        walk: Walk {
+            index,
+            position: 0,
+            scale: 0,
+            folded: 0,
+            ..c.walk
+        },
+        ..c
+    }
 }
 
 // The walk of the first query begins here.
-pub fn after_query_count(c: Core) -> Core
-    requires { Sane c }
-    ensures { result ≡ after_query_count sha256 c }
+#[tactic(auto, unfolding(reader_model::specs::Items::after_query_count, reader_model::specs::Items::at_query))]
+pub fn after_query_count(c: SaneCore) -> Core
+    ensures { result ≡ after_query_count sha256 c.core }
 {
-    let item = c.item;
-    let count = message::first_count(item);
-    if count == c.params.q as u32 {
-        let next = at_query(c, 0);
-        moved(next, Stage::Value)
+    let count = message::first_count(c.core.item);
+    if count == c.core.params.q as u32 {
+        at_query(c.moved(Stage::Value), 0)
     } else {
-        refuse(c, answer::COUNT_DIFFERS)
+        c.refused(Refusal::CountDiffers)
     }
 }

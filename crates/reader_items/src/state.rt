@@ -1,15 +1,12 @@
-// The reader's state: the lengths of items, the stopped states, and the move from one item to the next.
-ghost use Rattle.std.specs.Prelude.{◌≡◌, ◌+◌, ◌<◌};
+// The reader's state: the lengths of items, the stopped states, and the answers.
+ghost use Rattle.std.specs.Prelude.{◌≡◌};
 ghost use Rattle.answer.specs.Table.{answered, is_fault};
-ghost use Rattle.reader_model.specs.State.{item_length, no_cursor, no_walk, no_tables, stopped, closed_state, moved_to};
-ghost use Rattle.reader_model.specs.Items.{sane, refused};
+ghost use Rattle.answer.specs.Refusals.{number_of};
+ghost use Rattle.reader_model.specs.State.{item_length, stopped, closed_state};
 ghost use Rattle.reader_model.specs.Model.{is_stopped, is_tail, open_answer, told, answer_of};
-ghost use Rattle.reader_items.specs.Private.{is_sibling};
 
-use answer::Answer;
-use reader_model::{
-    CHALLENGES, COEFFICIENTS, Core, Cursor, ROOTS, Reader, Stage, Tables, VALUES, Walk,
-};
+use answer::{Answer, Refusal};
+use reader_model::{Core, Cursor, Reader, Stage, Tables, Walk};
 
 // The number of bytes of a stage's item.
 pub fn item_length(stage: Stage) -> usize
@@ -33,160 +30,51 @@ pub fn item_length(stage: Stage) -> usize
 pub fn is_stopped(stage: Stage) -> bool
     ensures { result ≡ is_stopped stage }
 {
-    item_length(stage) == 0
-}
-
-pub fn is_sibling(stage: Stage) -> bool
-    ensures { result ≡ is_sibling stage }
-{
-    match stage {
-        Stage::ParameterCount => false,
-        Stage::Parameters => false,
-        Stage::RootCount => false,
-        Stage::Root => false,
-        Stage::CoefficientCount => false,
-        Stage::Coefficient => false,
-        Stage::QueryCount => false,
-        Stage::Value => false,
-        Stage::Sibling => true,
-        Stage::Tail => false,
-        Stage::Stopped => false,
-    }
+    stage == Stage::Stopped
 }
 
 // Whether the file is whole.
 pub fn is_tail(stage: Stage) -> bool
     ensures { result ≡ is_tail stage }
 {
-    item_length(stage) == 1
+    stage == Stage::Tail
 }
 
-pub fn no_cursor() -> Cursor
-    ensures { result ≡ no_cursor }
+// Stopped with this refusal: nothing else is kept.
+pub fn halt(refusal: Refusal, place: u32) -> Core
+    ensures { result ≡ stopped (answered (number_of refusal) place) }
 {
-    Cursor {
-        start: 0,
-        coefficient: 0,
-        query: 0,
-        layer: 0,
-        value: 0,
-        height: 0,
-    }
-}
-
-pub fn no_walk() -> Walk
-    ensures { result ≡ no_walk }
-{
-    Walk {
-        index: 0,
-        position: 0,
-        values: [0u32; VALUES],
-        scale: 0,
-        folded: 0,
-        node: [0u8; 32],
-    }
-}
-
-pub fn no_tables() -> Tables
-    ensures { result ≡ no_tables }
-{
-    Tables {
-        roots: [0u8; ROOTS],
-        challenges: [0u32; CHALLENGES],
-        coefficients: [0u32; COEFFICIENTS],
-    }
-}
-
-// Stopped with this answer: nothing else is kept.
-pub fn halt(number: u8, place: u32) -> Core
-    ensures { result ≡ stopped (answered number place) }
-{
-    let zeros = [0u8; params::HEADER_SIZE];
-    let params = params::from_header(&zeros);
-    let cursor = no_cursor();
-    let walk = no_walk();
     Core {
         stage: Stage::Stopped,
-        answer: Answer {
-            number: number,
-            place: place,
-        },
+        answer: refusal.at(place),
         fill: 0,
-        item: [0u8; 32],
-        params: params,
-        cursor: cursor,
-        walk: walk,
-        transcript: [0u8; 32],
+        item: [0; 32],
+        params: params::from_header(&[]),
+        cursor: Cursor::default(),
+        walk: Walk::default(),
+        transcript: [0; 32],
     }
 }
 
 pub fn closed_state() -> Reader
     ensures { result ≡ closed_state }
 {
-    let core = halt(answer::CLOSED, 0);
-    let tables = no_tables();
     Reader {
-        core: core,
-        tables: tables,
+        core: halt(Refusal::Closed, 0),
+        tables: Tables::default(),
     }
-}
-
-// The bounds that every state of a reader keeps. A caller's state need not keep them, so each item is tested once.
-pub fn is_sane(c: Core) -> bool
-    ensures { result ≡ sane c }
-{
-    let cursor = c.cursor;
-    (c.fill <= 32)
-        & ((cursor.start < 2147483648)
-            & ((cursor.coefficient < 64)
-                & ((cursor.query < 128)
-                    & ((cursor.layer < 16) & ((cursor.value < 4) & (cursor.height < 32))))))
-}
-
-// At the next item, of another stage.
-pub fn moved(c: Core, stage: Stage) -> Core
-    requires { c.cursor.start + c.fill < 4294967296 }
-    ensures { result ≡ moved_to c stage }
-{
-    let start = c.cursor.start + c.fill as u32;
-    let mut cursor = c.cursor;
-    cursor.start = start;
-    Core {
-        stage,
-        answer: Answer {
-            number: answer::OPEN,
-            place: 0,
-        },
-        fill: 0,
-        cursor,
-        ..c
-    }
-}
-
-// Refused at the item's last byte.
-pub fn refuse(c: Core, number: u8) -> Core
-    requires { c.cursor.start + c.fill < 4294967296 }
-    ensures { result ≡ refused c number }
-{
-    let place = c.cursor.start + c.fill as u32;
-    halt(number, place)
 }
 
 // The answer of a reader that is not stopped, of its item's start and fill.
+#[tactic(auto, unfolding(reader_model::specs::Model::open_answer))]
 pub fn open_answer(number: u8, start: u32, fill: usize) -> Answer
     ensures { result ≡ open_answer number start fill }
 {
     if (fill <= 32) & (start < 2147483648) {
         let place = start + fill as u32;
-        Answer {
-            number: number,
-            place: place,
-        }
+        Answer { number, place }
     } else {
-        Answer {
-            number: answer::CLOSED,
-            place: 0,
-        }
+        Refusal::Closed.at(0)
     }
 }
 
@@ -194,35 +82,35 @@ pub fn open_answer(number: u8, start: u32, fill: usize) -> Answer
 fn is_fault(number: u8) -> bool
     ensures { result ≡ is_fault number }
 {
-    (number == answer::COUNT_DIFFERS)
-        | (number == answer::PARAMETERS_DIFFER)
-        | (number == answer::NOT_BELOW_MODULUS)
-        | (number == answer::PATH_MISSES_ROOT)
-        | (number == answer::NOT_THE_FOLDED_VALUE)
-        | (number == answer::MISSES_FINAL_POLYNOMIAL)
-        | (number == answer::BYTE_AFTER_THE_END)
+    (number == Refusal::CountDiffers.number())
+        | (number == Refusal::ParametersDiffer.number())
+        | (number == Refusal::NotBelowModulus.number())
+        | (number == Refusal::PathMissesRoot.number())
+        | (number == Refusal::NotTheFoldedValue.number())
+        | (number == Refusal::MissesFinalPolynomial.number())
+        | (number == Refusal::ByteAfterTheEnd.number())
 }
 
 // What a stopped reader tells of the answer that it keeps.
+#[tactic(auto, unfolding(reader_model::specs::Model::told))]
 fn tell(kept: Answer) -> Answer
     ensures { result ≡ told kept }
 {
     if is_fault(kept.number) {
-        return kept;
-    }
-    Answer {
-        number: answer::CLOSED,
-        place: 0,
+        kept
+    } else {
+        Refusal::Closed.at(0)
     }
 }
 
 // The answer of a reader in this state, where an open one answers with this number.
+#[tactic(auto, unfolding(reader_model::specs::Model::answer_of))]
 pub fn answer_of(c: Core, number: u8) -> Answer
     ensures { result ≡ answer_of c number }
 {
-    let stage = c.stage;
-    if is_stopped(stage) {
-        return tell(c.answer);
+    if is_stopped(c.stage) {
+        tell(c.answer)
+    } else {
+        open_answer(number, c.cursor.start, c.fill)
     }
-    open_answer(number, c.cursor.start, c.fill)
 }

@@ -1,5 +1,6 @@
 -- The model stands for the judgement, and so meets the claim.
 pub mod Choice
+pub mod Defaults
 pub mod Pieces
 pub mod Filled
 pub mod Rest

@@ -5,9 +5,9 @@ use native.Mathlib.Omega.{arith}
 use native.Mathlib.Numerals.{add-one}
 use mathlib.Core.Path.{◌≡◌, refl, sym, ◌∙◌, ap}
 use mathlib.Core.Bool.{Bool, true, false}
-use mathlib.Core.List.{List, [], ◌∷◌, foldl, foldl-append}
-use lib.ListN.{length, take, drop, get_or, set, take-append-drop, length-drop}
-use lib.Seq.{sets, take-length, take-add, take_all, take-take, length-take-le}
+use mathlib.Core.List.{List, [], ◌∷◌, ◌++◌, foldl, foldl-append}
+use lib.ListN.{length, take, get_or, set}
+use lib.Seq.{sets, take-length}
 use lib.Dec.{lit≤, ltb}
 use borrow.Author.Tests.{lt-ltb, le-ltb, ltb-true, ltb-false}
 use Rattle.message.specs.Message.{Digest}
@@ -129,35 +129,23 @@ module _ (hash : List ℕ → Digest) where
   stays r [] h = refl
   stays r (b ∷ bs) h = rw (step-stopped r b h) (stays r bs h)
 
-  -- The loop over a piece: r is the state after the first i bytes. A stopped reader is the answer; a run of n bytes goes on within the item or ends it; and at the
-  -- end all bytes have been read.
-  module _ (s : Reader) (bytes : List ℕ) (i : ℕ) {r : Reader} (inv : r ≡ fed hash s (take i bytes)) where
-    pub fed-stopped : item_length r.core.stage ≤ r.core.fill → r ≡ fed hash s bytes
+  -- The loop over a piece: a stopped reader is the answer, and so is any at the piece's end; a run of bytes at the piece's front goes on within the
+  -- item, or ends it.
+  pub fed-stopped : (r : Reader) (bytes : List ℕ) → item_length r.core.stage ≤ r.core.fill → fed hash r bytes ≡ r
+  unfolding fed
+  fed-stopped r bytes h = stays r bytes h
+
+  pub fed_all : (r : Reader) (bytes : List ℕ) → length bytes ≡ 0 → fed hash r bytes ≡ r
+  unfolding fed
+  fed_all r [] h = refl
+  fed_all r (b ∷ bs) h = absurd (omega arith)
+
+  module _ (r : Reader) (bs after : List ℕ) {bytes item : List ℕ} (parts : bytes ≡ bs ++ after) (stores : item ≡ sets r.core.item r.core.fill bs) where
+    pub fed-more : r.core.fill + length bs < item_length r.core.stage → fed hash r bytes ≡ fed hash (filled r item (r.core.fill + length bs)) after
     unfolding fed
-    fed-stopped h = sym (rw (← take-append-drop i bytes, foldl-append, ← inv) (stays r (drop i bytes) h))
+    fed-more h = rw (parts, stores, foldl-append, run_more r bs h)
 
-    pub fed_all : length bytes ≤ i → r ≡ fed hash s bytes
-    fed_all h = inv ∙ ap (λ (l : List ℕ). fed hash s l) (take_all i bytes h)
-
-    fed-run : (n : ℕ) → foldl (step hash) r (take n (drop i bytes)) ≡ fed hash s (take (i + n) bytes)
+    pub fed_last : {x : Reader} → 0 < length bs → r.core.fill + length bs ≡ item_length r.core.stage
+        → x ≡ advanced hash (filled r item (r.core.fill + length bs)) → fed hash r bytes ≡ fed hash x after
     unfolding fed
-    fed-run n = sym (rw (take-add, foldl-append, ← inv) refl)
-
-    module _ (n : ℕ) (item : List ℕ) (stores : item ≡ sets r.core.item r.core.fill (take n (take (length bytes - i) (drop i bytes)))) (long : i + n ≤ length bytes) where
-      length_run : length (take n (drop i bytes)) ≡ n
-      length_run = length-take-le n (drop i bytes) (simp length-drop (omega arith))
-
-      run_is : filled r item (r.core.fill + n) ≡ run r (take n (drop i bytes))
-      run_is =
-          ap (λ (l : List ℕ). filled r l (r.core.fill + n)) stores
-          ∙ ap (λ (l : List ℕ). filled r (sets r.core.item r.core.fill l) (r.core.fill + n)) (take-take n (length bytes - i) (drop i bytes) (omega arith))
-          ∙ ap (λ (k : ℕ). filled r (sets r.core.item r.core.fill (take n (drop i bytes))) (r.core.fill + k)) (sym length_run)
-
-      pub fed-more : r.core.fill + n < item_length r.core.stage → filled r item (r.core.fill + n) ≡ fed hash s (take (i + n) bytes)
-      fed-more h = run_is ∙ (sym (run_more r (take n (drop i bytes)) (rw length_run h)) ∙ fed-run n)
-
-      pub fed_last : {x : Reader} → 0 < n → r.core.fill + n ≡ item_length r.core.stage → x ≡ advanced hash (filled r item (r.core.fill + n)) → x ≡ fed hash s (take (i + n) bytes)
-      fed_last some h e =
-          e
-          ∙ (ap (advanced hash) run_is
-          ∙ (sym (run-whole r (take n (drop i bytes)) (omega (arith, length_run)) (omega (arith, length_run))) ∙ fed-run n))
+    fed_last some h e = rw (e, parts, stores, foldl-append, run-whole r bs some h)

@@ -6,7 +6,7 @@ use answer::Answer;
 use params::Params;
 
 // What the current item is. Tail: the file is whole, and one byte more would be too many. Stopped: refused or closed, no item is read any more.
-#[derive(Clone, Copy)]
+#[derive(Clone, Copy, Debug, PartialEq, Eq)]
 pub enum Stage {
     ParameterCount,
     Parameters,
@@ -32,7 +32,7 @@ pub const VALUES: usize = 4;
 
 // Where the current item stands: the bytes before it, and its coefficient, query, layer, value and height.
 #[repr(C)]
-#[derive(Clone, Copy)]
+#[derive(Clone, Copy, Default)]
 pub struct Cursor {
     pub start: u32,
     pub coefficient: usize,
@@ -45,7 +45,7 @@ pub struct Cursor {
 // A query's walk: its index in the layer, the number of the node at its height, the leaf's values, what the next layer's value must meet (scale times
 // it is folded), and the node.
 #[repr(C)]
-#[derive(Clone, Copy)]
+#[derive(Clone, Copy, Default)]
 pub struct Walk {
     pub index: u32,
     pub position: u32,
@@ -70,7 +70,7 @@ pub struct Core {
 
 // What sections 2 and 3 leave: the roots joined, the challenges, and the final coefficients.
 #[repr(C)]
-#[derive(Clone, Copy)]
+#[derive(Clone, Copy, Default)]
 pub struct Tables {
     pub roots: [u8; ROOTS],
     pub challenges: [u32; CHALLENGES],

@@ -2,47 +2,43 @@
 // alone: `gather` requires what its callers have tested.
 #![tactic(auto)]
 
-ghost use Rattle.std.specs.Prelude.{◌≡◌, ◌+◌, ◌≤◌, ◌<◌, min, length, take};
+ghost use Rattle.std.specs.Prelude.{◌≡◌, ◌+◌, ◌≤◌, length};
 ghost use Rattle.std.proofs.lemmas.List.Edits.{sets};
 ghost use Rattle.sha256.specs.Sha256.{sha256};
 ghost use Rattle.reader_model.specs.State.{tables, whole};
 ghost use Rattle.reader_model.specs.Items.{after_item, advanced};
 ghost use Rattle.reader_model.specs.Model.{fed};
-ghost use Rattle.reader_items.specs.Private.{Sane};
 
+use answer::Refusal;
+use reader_items::sane::SaneCore;
+use reader_items::{sections, state};
 use reader_model::{CHALLENGES, COEFFICIENTS, Core, ROOTS, Stage};
 
-// What a whole item of a sane state does, by its stage.
+// What a whole item does, by its stage.
+// Stays three arrays beside the core, here and below (C interface): `reader::piece_in_place` is lent them one by one.
 fn dispatch(
-    c: Core,
+    c: SaneCore,
     roots: &mut [u8; ROOTS],
     challenges: &mut [u32; CHALLENGES],
     coefficients: &mut [u32; COEFFICIENTS],
 ) -> Core
-    requires { Sane c }
-    ensures { whole result roots.new challenges.new coefficients.new ≡ after_item sha256 c.stage c (tables roots.old challenges.old coefficients.old) }
+    ensures { whole result roots.new challenges.new coefficients.new ≡ after_item sha256 c.core.stage c.core (tables roots.old challenges.old coefficients.old) }
 {
-    let stage = c.stage;
-    let params = c.params;
-    match stage {
-        Stage::ParameterCount => reader_items::sections::after_count(
-            c,
-            params::HEADER_SIZE,
-            Stage::Parameters,
-        ),
-        Stage::Parameters => reader_items::sections::after_parameters(c),
-        Stage::RootCount => reader_items::sections::after_count(c, params.k as usize, Stage::Root),
-        Stage::Root => reader_items::sections::after_root(c, roots, challenges),
+    let params = c.core.params;
+    match c.core.stage {
+        Stage::ParameterCount => sections::after_count(c, params::HEADER_SIZE, Stage::Parameters),
+        Stage::Parameters => sections::after_parameters(c),
+        Stage::RootCount => sections::after_count(c, params.k as usize, Stage::Root),
+        Stage::Root => sections::after_root(c, roots, challenges),
         Stage::CoefficientCount => {
-            let count = params::final_count(params);
-            reader_items::sections::after_count(c, count, Stage::Coefficient)
+            sections::after_count(c, params::final_count(params), Stage::Coefficient)
         }
-        Stage::Coefficient => reader_items::sections::after_coefficient(c, coefficients),
-        Stage::QueryCount => reader_items::sections::after_query_count(c),
+        Stage::Coefficient => sections::after_coefficient(c, coefficients),
+        Stage::QueryCount => sections::after_query_count(c),
         Stage::Value => reader_queries::after_value(c, challenges),
         Stage::Sibling => reader_queries::after_sibling(c, roots, coefficients),
-        Stage::Tail => reader_items::state::refuse(c, answer::BYTE_AFTER_THE_END),
-        Stage::Stopped => c,
+        Stage::Tail => c.refused(Refusal::ByteAfterTheEnd),
+        Stage::Stopped => c.core,
     }
 }
 
@@ -55,40 +51,21 @@ fn advance(
 ) -> Core
     ensures { whole result roots.new challenges.new coefficients.new ≡ advanced sha256 (whole c roots.old challenges.old coefficients.old) }
 {
-    if reader_items::state::is_sane(c) {
-        dispatch(c, roots, challenges, coefficients)
-    } else {
-        reader_items::state::halt(answer::CLOSED, 0)
+    match SaneCore::of(c) {
+        Some(sane) => dispatch(sane, roots, challenges, coefficients),
+        None => state::halt(Refusal::Closed, 0),
     }
 }
 
-fn least(a: usize, b: usize) -> usize
-    ensures { result ≡ min a b }
+// A run of bytes goes into the item's buffer, from index `at` on. One byte is stored, since a run is copied by a call.
+pub fn gather(item: &mut [u8; 32], at: usize, run: &[u8])
+    requires { at + length run.now ≤ 32 }
+    ensures { item.new ≡ sets item.old at run.now }
 {
-    if a < b { a } else { b }
-}
-
-// The first n bytes of a piece go into the item's buffer, from index at on. A loop of its own: the tests of `buffer::put` cost 3 to 8 instructions a piece.
-fn copy(item: &mut [u8; 32], at: usize, bytes: &[u8], n: usize)
-    requires { (at + n ≤ 32) × (n ≤ length bytes.now) }
-    ensures { item.new ≡ sets item.old at (take n bytes.now) }
-{
-    let mut i = 0;
-    while i < n {
-        item[at + i] = bytes[i];
-        i += 1;
-    }
-}
-
-// The same. One byte is stored, since a run is copied by a call.
-pub fn gather(item: &mut [u8; 32], at: usize, bytes: &[u8], n: usize)
-    requires { (at + n ≤ 32) × (n ≤ length bytes.now) }
-    ensures { item.new ≡ sets item.old at (take n bytes.now) }
-{
-    if n == 1 {
-        item[at] = bytes[0];
+    if let [byte] = run {
+        item[at] = *byte;
     } else {
-        copy(item, at, bytes, n);
+        item[at..at + run.len()].copy_from_slice(run);
     }
 }
 
@@ -103,25 +80,19 @@ pub fn feed(
     ensures { whole result roots.new challenges.new coefficients.new ≡ fed sha256 (whole core roots.old challenges.old coefficients.old) bytes.now }
 {
     let mut c = core;
-    let mut i = 0;
-    while i < bytes.len() {
-        let stage = c.stage;
-        let need = reader_items::state::item_length(stage);
-        let fill = c.fill;
-        if need <= fill {
+    let mut rest = bytes;
+    while !rest.is_empty() {
+        let need = state::item_length(c.stage);
+        if need <= c.fill {
             break;
         }
-        let room = need - fill;
-        let n = least(room, bytes.len() - i);
-        gather(&mut c.item, fill, &bytes[i..], n);
-        c.fill = fill + n;
-        i += n;
-        if n == room {
-            if reader_queries::goes_on(c) {
-                c = reader_queries::up(c);
-            } else {
-                c = advance(c, roots, challenges, coefficients);
-            }
+        let room = need - c.fill;
+        let (run, after) = rest.split_at(room.min(rest.len()));
+        gather(&mut c.item, c.fill, run);
+        c.fill += run.len();
+        rest = after;
+        if run.len() == room {
+            c = advance(c, roots, challenges, coefficients);
         }
     }
     c
