@@ -1,11 +1,10 @@
 -- The answers of open, piece and end together are the verdict on the bytes that were fed, in whatever pieces.
 -- Assumes nothing.
 use mathlib.Core.Path.{◌≡◌, refl, sym, ap, ◌∙◌}
-use mathlib.Core.List.{List}
-use Prim.Native.Nat.{ℕ, ◌+◌, ◌-◌, ◌≤◌}
-use native.Mathlib.Omega.{arith}
-use lib.ListN.{length, take, drop}
-use lib.Seq.{take-length, take-add}
+use mathlib.Core.List.{List, ◌++◌}
+use Prim.Native.Nat.{ℕ}
+use lib.ListN.{length}
+use Rattle.std.proofs.lemmas.List.{nil_from_length}
 use Rattle.sha256.specs.Sha256.{sha256}
 use Rattle.answer.specs.declared.Answer.{Answer}
 use Rattle.answer.specs.Table.{open_so_far}
@@ -16,7 +15,7 @@ use Rattle.reader_model.specs.declared.Reply.{Reply}
 use Rattle.reader_model.specs.Model.{opened, pieced, fed, ended}
 use Rattle.lent_reader.specs.Held.{Outcome, reader_of, outcome_of}
 use Rattle.lent_reader.proofs.Through.{left_by, answered_by}
-use Rattle.reader_model.proofs.Theorem.{fed-append, verdict-fed, verdict-refused}
+use Rattle.reader_model.proofs.Theorem.{fed_none, fed-append, verdict-fed, verdict-refused}
 
 -- The state that a piece leaves.
 pub piece-state : (r : Reader) (bytes : List ℕ) {reply : Reply} → reply ≡ pieced sha256 r bytes → reply.state ≡ fed sha256 r bytes
@@ -38,34 +37,33 @@ unfolding opened
 refused-verdict a bytes e n =
     ap (λ (x : Reply). x.answer) e ∙ verdict-refused sha256 a bytes (λ v. n (ap (λ (x : Reply). x.answer.number) e ∙ v))
 
--- One piece more, fed to what a caller holds.
-pub fed-more : {s : Reader} {x : Outcome} (r : Reader) (bytes : List ℕ) (at to : ℕ) → at ≤ to → s ≡ fed sha256 r (take at bytes)
-    → x ≡ outcome_of (pieced sha256 s (take (to - at) (drop at bytes))) → reader_of x.held ≡ fed sha256 r (take to bytes)
+-- What a caller holds after a piece, and what the end call answers it.
+pub fed-piece : {s r : Reader} {x : Outcome} (bytes : List ℕ) → s ≡ r → x ≡ outcome_of (pieced sha256 s bytes) → reader_of x.held ≡ fed sha256 r bytes
 unfolding pieced
-fed-more {s} r bytes at to h e f =
-    let size : at + (to - at) ≡ to = omega arith in
-    left_by (pieced sha256 s (take (to - at) (drop at bytes))) f ∙ ap (λ (x : Reader). fed sha256 x (take (to - at) (drop at bytes))) e
-    ∙ fed-append sha256 r (take at bytes) (take (to - at) (drop at bytes))
-    ∙ ap (fed sha256 r) (sym (take-add at (to - at) bytes) ∙ ap (λ (n : ℕ). take n bytes) size)
+fed-piece {s} bytes e f = left_by (pieced sha256 s bytes) f ∙ ap (λ (x : Reader). fed sha256 x bytes) e
 
--- All bytes in one.
-pub fed-whole : {x : Outcome} (s : Reader) (bytes : List ℕ) → x ≡ outcome_of (pieced sha256 s bytes) → reader_of x.held ≡ fed sha256 s bytes
-unfolding pieced
-fed-whole s bytes e = left_by (pieced sha256 s bytes) e
+pub ended-answer : {s r : Reader} {x : Outcome} → s ≡ r → x ≡ outcome_of (ended s) → x.answer ≡ (ended r).answer
+ended-answer {s} e f = answered_by (ended s) f ∙ ap (λ (x : Reader). (ended x).answer) e
 
--- All of them.
-pub fed_all : {s : Reader} (r : Reader) (bytes : List ℕ) (at : ℕ) → at ≡ length bytes → s ≡ fed sha256 r (take at bytes) → s ≡ fed sha256 r bytes
-fed_all r bytes at e f = f ∙ ap (fed sha256 r) (ap (λ (n : ℕ). take n bytes) e ∙ take-length bytes)
+-- One piece more of what is left, and none.
+pub fed-next : {s x : Reader} {rest : List ℕ} (r : Reader) (bytes more : List ℕ) → rest ≡ bytes ++ more → s ≡ fed sha256 r bytes → fed sha256 r rest ≡ x
+    → fed sha256 s more ≡ x
+fed-next r bytes more e f g =
+    ap (λ (y : Reader). fed sha256 y more) f ∙ fed-append sha256 r bytes more ∙ ap (fed sha256 r) (sym e) ∙ g
 
--- The same of what a caller holds: the opening's outcome, the reader after the bytes, the end call's outcome.
-pub admitted-outcome : (a : Terms) (bytes : List ℕ) {start end : Outcome} {last : Reader} → start ≡ outcome_of (opened sha256 a)
-    → start.answer.number ≡ open_so_far → last ≡ fed sha256 (reader_of start.held) bytes → end ≡ outcome_of (ended last)
-    → end.answer ≡ verdict sha256 a bytes
-admitted-outcome a bytes {last = last} e n f g =
+pub fed-all : {x : Reader} (r : Reader) (rest : List ℕ) → length rest ≡ 0 → fed sha256 r rest ≡ x → r ≡ x
+fed-all r rest e f = sym (fed_none sha256 r) ∙ ap (fed sha256 r) (sym (nil_from_length rest e)) ∙ f
+
+pub ended-verdict : {x y : Answer} {r s : Reader} → x ≡ (ended r).answer → r ≡ s → (ended s).answer ≡ y → x ≡ y
+ended-verdict e f g = e ∙ ap (λ (r : Reader). (ended r).answer) f ∙ g
+
+-- The same of what a caller holds after the opening.
+pub admitted-outcome : (a : Terms) (bytes : List ℕ) {start : Outcome} → start ≡ outcome_of (opened sha256 a)
+    → start.answer.number ≡ open_so_far → (ended (fed sha256 (reader_of start.held) bytes)).answer ≡ verdict sha256 a bytes
+admitted-outcome a bytes e n =
     let first = opened sha256 a in
-    answered_by (ended last) g
-    ∙ admitted-verdict a bytes {start = first} refl (sym (ap (λ (x : Answer). x.number) (answered_by first e)) ∙ n)
-    (f ∙ ap (λ (r : Reader). fed sha256 r bytes) (left_by first e)) refl
+    admitted-verdict a bytes {start = first} refl (sym (ap (λ (x : Answer). x.number) (answered_by first e)) ∙ n)
+    (ap (λ (r : Reader). fed sha256 r bytes) (left_by first e)) refl
 
 pub refused-outcome : (a : Terms) (bytes : List ℕ) {start : Outcome} → start ≡ outcome_of (opened sha256 a) → ¬ (start.answer.number ≡ open_so_far)
     → start.answer ≡ verdict sha256 a bytes

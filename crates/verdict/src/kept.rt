@@ -1,0 +1,109 @@
+// A reader as callers in C hold it.
+ghost use Rattle.std.specs.Prelude.{◌≡◌, ℕ, List, MatchResult};
+ghost use Rattle.sha256.specs.Sha256.{sha256};
+ghost use Rattle.fri.specs.Judge as judge;
+ghost use Rattle.reader_model.specs.Model.{fed, ended};
+ghost use Rattle.reader_model.specs.declared.Reader.{Reader};
+ghost use Rattle.lent_reader.specs.Held.{held, reader_of, zeros};
+
+use answer::Answer;
+use lent_reader::{SIZES, U8S, U32S};
+use params::Terms;
+use reader_model::{CHALLENGES, COEFFICIENTS, ROOTS};
+use std::marker::Model;
+
+// The nine arrays that the calls are lent. Contracts see the state that they stand for.
+#[derive(Drop)]
+pub struct Kept {
+    u8s: [u8; U8S],
+    u32s: [u32; U32S],
+    sizes: [usize; SIZES],
+    item: [u8; 32],
+    node: [u8; 32],
+    transcript: [u8; 32],
+    roots: [u8; ROOTS],
+    challenges: [u32; CHALLENGES],
+    coefficients: [u32; COEFFICIENTS],
+}
+
+impl Model for Kept {
+    ghost Value = { Reader };
+
+    ghost view = { λ r. reader_of (held r.u8s r.u32s r.sizes r.item r.node r.transcript r.roots r.challenges r.coefficients) };
+}
+
+impl Kept {
+    // Memory of zeros: a closed reader.
+    pub fn zeros() -> Kept
+        ensures { result ≡ reader_of zeros }
+    {
+        Kept {
+            u8s: [0; U8S],
+            u32s: [0; U32S],
+            sizes: [0; SIZES],
+            item: [0; 32],
+            node: [0; 32],
+            transcript: [0; 32],
+            roots: [0; ROOTS],
+            challenges: [0; CHALLENGES],
+            coefficients: [0; COEFFICIENTS],
+        }
+    }
+
+    // What the reader gives at its end is the verdict on what it was fed; a refusal is the verdict on any bytes.
+    pub fn open(&mut self, a: Terms) -> Result<(), Answer>
+        ensures { MatchResult result (λ _. (bytes : List ℕ) → (ended (fed sha256 self.new bytes)).answer ≡ judge.verdict sha256 a bytes) (λ refusal. (bytes : List ℕ) → refusal ≡ judge.verdict sha256 a bytes) }
+    {
+        let start = lent_reader::open(
+            a,
+            &mut self.u8s,
+            &mut self.u32s,
+            &mut self.sizes,
+            &mut self.item,
+            &mut self.node,
+            &mut self.transcript,
+            &mut self.roots,
+            &mut self.challenges,
+            &mut self.coefficients,
+        );
+        if start.number != answer::OPEN {
+            return Err(start);
+        }
+        Ok(())
+    }
+
+    // A piece, of any number of bytes.
+    pub fn piece(&mut self, bytes: &[u8])
+        ensures { self.new ≡ fed sha256 self.old bytes.now }
+    {
+        lent_reader::piece(
+            &mut self.u8s,
+            &mut self.u32s,
+            &mut self.sizes,
+            &mut self.item,
+            bytes,
+            &mut self.node,
+            &mut self.transcript,
+            &mut self.roots,
+            &mut self.challenges,
+            &mut self.coefficients,
+        );
+    }
+
+    // The end call.
+    pub fn end(&mut self) -> Answer
+        ensures { result ≡ (ended self.old).answer }
+    {
+        lent_reader::end(
+            &mut self.u8s,
+            &mut self.u32s,
+            &mut self.sizes,
+            &mut self.item,
+            &mut self.node,
+            &mut self.transcript,
+            &mut self.roots,
+            &mut self.challenges,
+            &mut self.coefficients,
+        )
+    }
+}
