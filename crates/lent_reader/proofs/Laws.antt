@@ -19,7 +19,7 @@ use Rattle.reader_model.specs.declared.Tables.{Tables}
 use Rattle.reader_model.specs.declared.Reader.{Reader}
 use Rattle.reader_model.specs.declared.Reply.{Reply}
 use Rattle.reader_model.specs.State.{item_length, whole}
-use Rattle.reader_model.specs.Model.{ends_inside, filled_item, is_stopped, open_answer, told, answer_of, replied, pieced, ended}
+use Rattle.reader_model.specs.Model.{ends_inside, filled_item, is_stopped, open_answer, told, answer_of, replied, pieced}
 use Rattle.reader_model.proofs.Pieces.{filled_inside, filled_not, run, fed_inside}
 use Rattle.lent_reader.specs.declared.parts.Front.{Front}
 use Rattle.lent_reader.specs.Private.{front_of}
@@ -33,20 +33,14 @@ outcome_by {s} {a} roots challenges coefficients e f =
     ap (λ (k : Small). record { answer = a; held = record { small = k; tables = record { roots = roots; challenges = challenges; coefficients = coefficients } } }) e
     ∙ ap outcome_of f
 
-pub outcome_of_lem : {x : Outcome} {y z : Reply} → x ≡ outcome_of y → y ≡ z → x ≡ outcome_of z
-outcome_of_lem e f = e ∙ ap outcome_of f
-
 pub pieced_from : {y : Reply} {r x : Reader} (bytes : List ℕ) → y ≡ pieced sha256 r bytes → r ≡ x → y ≡ pieced sha256 x bytes
 pieced_from bytes e f = e ∙ ap (λ r. pieced sha256 r bytes) f
-
-pub ended_from : {y : Reply} {r x : Reader} → y ≡ ended r → r ≡ x → y ≡ ended x
-ended_from e f = e ∙ ap ended f
 
 pub whole_from : {k l : Core} (roots challenges coefficients : List ℕ) → k ≡ l → whole k roots challenges coefficients ≡ whole l roots challenges coefficients
 whole_from roots challenges coefficients e = ap (λ c. whole c roots challenges coefficients) e
 
 -- A list is the list of its elements.
-abbrev elements : ℕ → (ℕ → ℕ) → List ℕ
+abbrev pub elements : ℕ → (ℕ → ℕ) → List ℕ
 elements zero f = []
 elements (suc n) f = f zero ∷ elements n (λ i. f (suc i))
 
@@ -54,7 +48,7 @@ spelt : (xs : List ℕ) → xs ≡ elements (length xs) (λ i. get_or xs i 0)
 spelt [] = refl
 spelt (x ∷ xs) = ap (λ l. x ∷ l) (spelt xs)
 
-spelt_by : (n : ℕ) (xs : List ℕ) → length xs ≡ n → xs ≡ elements n (λ i. get_or xs i 0)
+pub spelt_by : (n : ℕ) (xs : List ℕ) → length xs ≡ n → xs ≡ elements n (λ i. get_or xs i 0)
 spelt_by n xs e = spelt xs ∙ ap (λ k. elements k (λ i. get_or xs i 0)) e
 
 split_at : (k : ℕ) (xs : List ℕ) → k ≤ length xs → xs ≡ elements k (λ i. get_or xs i 0) ++ drop k xs
@@ -79,11 +73,6 @@ u8s_back ms e back =
 -- Those of four bytes: six, then the leaf's values.
 pub last_four : (ws : List ℕ) → length ws ≡ 10 → get_or ws 6 0 ∷ get_or ws 7 0 ∷ get_or ws 8 0 ∷ get_or ws 9 0 ∷ [] ≡ drop 6 ws
 last_four ws e = sym (ap (drop 6) (spelt_by 10 ws e))
-
-pub joined-u32s : (front values : List ℕ) → length front ≡ 6 → length values ≡ 4
-    → get_or front 0 0 ∷ get_or front 1 0 ∷ get_or front 2 0 ∷ get_or front 3 0 ∷ get_or front 4 0 ∷ get_or front 5 0 ∷ get_or values 0 0 ∷ get_or values 1 0 ∷ get_or values 2 0 ∷ get_or values 3 0 ∷ []
-    ≡ front ++ values
-joined-u32s front values l k = sym (ap₂ (λ (xs ys : List ℕ). xs ++ ys) (spelt_by 6 front l) (spelt_by 4 values k))
 
 -- A stage whose item has bytes is not the stopped one, and has one number only.
 pick : (m k : ℕ) (s rest : Stage) (test : Bool) → eqb m k ≡ test → number_of s ≡ k → (0 < item_length rest → number_of rest ≡ m) → 0 < item_length (cond test s rest) → number_of (cond test s rest) ≡ m

@@ -37,13 +37,12 @@ fn hand_over(
 ) -> Answer
     ensures { outcome result u8s.new u32s.new sizes.new item.new node.new transcript.new roots.new challenges.new coefficients.new ≡ outcome_of reply }
 {
-    let state = reply.state;
-    let core = state.core;
-    parts::keep(core, u8s, u32s, sizes, item, node, transcript);
-    let tables = state.tables;
-    let r = tables.roots;
-    let h = tables.challenges;
-    let k = tables.coefficients;
+    parts::keep(reply.state.core, u8s, u32s, sizes, item, node, transcript);
+    let Tables {
+        roots: r,
+        challenges: h,
+        coefficients: k,
+    } = reply.state.tables;
     *roots = r;
     *challenges = h;
     *coefficients = k;
@@ -80,7 +79,8 @@ pub fn open(
     )
 }
 
-// A piece that is read at once: the state is taken out of the arrays and put back.
+// A piece that is read at once: the state is taken out of the arrays and put back. Apart from `piece`, whose short way needs few registers.
+#[inline(never)]
 pub fn read(
     u8s: &mut [u8; U8S],
     u32s: &mut [u32; U32S],
@@ -97,8 +97,7 @@ pub fn read(
 {
     let core = parts::core_of(*u8s, *u32s, *sizes, *item, *node, *transcript);
     let progress = reader::piece_in_place(core, roots, challenges, coefficients, bytes);
-    let next = progress.core;
-    parts::keep(next, u8s, u32s, sizes, item, node, transcript);
+    parts::keep(progress.core, u8s, u32s, sizes, item, node, transcript);
     progress.answer
 }
 
@@ -118,10 +117,8 @@ pub fn piece(
     ensures { outcome result u8s.new u32s.new sizes.new item.new node.new transcript.new roots.new challenges.new coefficients.new ≡ outcome_of (pieced sha256 (reader_of (held u8s.old u32s.old sizes.old item.old node.old transcript.old roots.old challenges.old coefficients.old)) bytes.now) }
 {
     let front = parts::front_of(*u8s, *u32s, *sizes);
-    let stage = front.stage;
-    let fill = front.fill;
-    if reader::fill_item(stage, fill, item, bytes) {
-        let filled = fill + bytes.len();
+    if reader::fill_item(front.stage, front.fill, item, bytes) {
+        let filled = front.fill + bytes.len();
         sizes[0] = filled;
         reader::open_answer(front.start, filled)
     } else {
@@ -154,15 +151,13 @@ pub fn end(
 ) -> Answer
     ensures { outcome result u8s.new u32s.new sizes.new item.new node.new transcript.new roots.new challenges.new coefficients.new ≡ outcome_of (ended (reader_of (held u8s.old u32s.old sizes.old item.old node.old transcript.old roots.old challenges.old coefficients.old))) }
 {
-    let core = parts::core_of(*u8s, *u32s, *sizes, *item, *node, *transcript);
-    let tables = Tables {
-        roots: *roots,
-        challenges: *challenges,
-        coefficients: *coefficients,
-    };
     let state = Reader {
-        core: core,
-        tables: tables,
+        core: parts::core_of(*u8s, *u32s, *sizes, *item, *node, *transcript),
+        tables: Tables {
+            roots: *roots,
+            challenges: *challenges,
+            coefficients: *coefficients,
+        },
     };
     let last = reader::end(state);
     hand_over(

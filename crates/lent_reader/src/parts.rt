@@ -60,9 +60,8 @@ pub struct Front {
 pub fn front_of(u8s: [u8; U8S], u32s: [u32; U32S], sizes: [usize; SIZES]) -> Front
     ensures { (result ≡ front_of u8s u32s sizes) × ((length u8s ≡ 6 + header_size) × ((length u32s ≡ 10) × (length sizes ≡ 2))) }
 {
-    let stage = stage_of(u8s[0]);
     Front {
-        stage: stage,
+        stage: stage_of(u8s[0]),
         start: u32s[0],
         fill: sizes[0],
     }
@@ -78,18 +77,15 @@ pub fn core_of(
 ) -> Core
     ensures { result ≡ core_of (small u8s u32s sizes item node transcript) }
 {
-    let stage = stage_of(u8s[0]);
-    let params = params::from_header(&u8s[6..]);
-    let values = [u32s[6], u32s[7], u32s[8], u32s[9]];
     Core {
-        stage: stage,
+        stage: stage_of(u8s[0]),
         answer: Answer {
             number: u8s[5],
             place: u32s[5],
         },
         fill: sizes[0],
-        item: item,
-        params: params,
+        item,
+        params: params::from_header(&u8s[6..]),
         cursor: Cursor {
             start: u32s[0],
             coefficient: sizes[1],
@@ -101,23 +97,13 @@ pub fn core_of(
         walk: Walk {
             index: u32s[1],
             position: u32s[2],
-            values: values,
+            values: [u32s[6], u32s[7], u32s[8], u32s[9]],
             scale: u32s[3],
             folded: u32s[4],
-            node: node,
+            node,
         },
-        transcript: transcript,
+        transcript,
     }
-}
-
-// The u32s: six numbers, then the leaf's values.
-fn joined(front: [u32; 6], values: [u32; VALUES]) -> [u32; U32S]
-    ensures { result ≡ front ++ values }
-{
-    [
-        front[0], front[1], front[2], front[3], front[4], front[5], values[0], values[1],
-        values[2], values[3],
-    ]
 }
 
 // Puts the small part into the arrays, whatever they held.
@@ -132,34 +118,30 @@ pub fn keep(
 )
     ensures { small u8s.new u32s.new sizes.new item.new node.new transcript.new ≡ small_of c }
 {
-    let stage = c.stage;
-    let number = number_of(stage);
-    let header = params::header(c.params);
     let mut all = [0u8; U8S];
-    all[0] = number;
+    all[0] = number_of(c.stage);
     all[1] = c.cursor.query;
     all[2] = c.cursor.layer;
     all[3] = c.cursor.value;
     all[4] = c.cursor.height;
     all[5] = c.answer.number;
-    buffer::put(&mut all, 6, &header);
+    all[6..].copy_from_slice(&params::header(c.params));
     *u8s = all;
-    let walk = c.walk;
-    let values = walk.values;
-    let front = [
+    let [first, second, third, fourth] = c.walk.values;
+    *u32s = [
         c.cursor.start,
         c.walk.index,
         c.walk.position,
         c.walk.scale,
         c.walk.folded,
         c.answer.place,
+        first,
+        second,
+        third,
+        fourth,
     ];
-    *u32s = joined(front, values);
     *sizes = [c.fill, c.cursor.coefficient];
-    let last = c.item;
-    *item = last;
-    let above = walk.node;
-    *node = above;
-    let state = c.transcript;
-    *transcript = state;
+    *item = c.item;
+    *node = c.walk.node;
+    *transcript = c.transcript;
 }

@@ -14,4 +14,4 @@ returns c =
     let args = c.args in
     let long : length args.u8s ≡ 6 + header_size = search rules in
     let all : length args.u32s ≡ 10 = search rules in
-    rw (c.stage_of-stage.ensures, c.from_header-params.ensures ∙ parameters_at args.u8s long, ← last_four args.u32s all)
+    rw (c.stage_of.ensures, c.from_header.ensures ∙ parameters_at args.u8s long, ← last_four args.u32s all)
