@@ -13,19 +13,7 @@ use reader_model::{Core, Cursor, Stage, VALUES, Walk};
 fn number_of(stage: Stage) -> u8
     ensures { result ≡ number_of stage }
 {
-    match stage {
-        Stage::Stopped => 0,
-        Stage::ParameterCount => 1,
-        Stage::Parameters => 2,
-        Stage::RootCount => 3,
-        Stage::Root => 4,
-        Stage::CoefficientCount => 5,
-        Stage::Coefficient => 6,
-        Stage::QueryCount => 7,
-        Stage::Value => 8,
-        Stage::Sibling => 9,
-        Stage::Tail => 10,
-    }
+    stage as u8
 }
 
 // Every number is a stage: one that names none is a stopped reader's.

@@ -1,22 +1,25 @@
 -- Laws of the look-up: what it means that an opening is found, that it lies within the file, and that the span cuts out the part. Assumes nothing.
 use Prim.Native.Nat.{ℕ, zero, suc, ◌+◌, ◌-◌, ◌*◌, ◌≤◌, ◌<◌}
-use mathlib.Core.Bool.{Bool, true, false, not, ◌&&◌, cond}
+use mathlib.Core.Bool.{Bool, true, false, ◌&&◌, cond}
 use mathlib.Core.List.{List, []}
-use mathlib.Core.Path.{◌≡◌, refl, ap, sym, ◌∙◌}
+use mathlib.Core.Path.{◌≡◌, refl, ap, ◌∙◌}
 use native.Mathlib.Nat.{add_comm, add-sub_cancel_left, mul-le-mul_right, suc-mul}
 use native.Mathlib.Omega.{arith}
-use borrow.Author.Tests.{not-true, not-false, ltb-true, eqb-true, lt-ltb, eq-eqb, ne_eqb}
+use borrow.Author.Tests.{ltb-true, eqb-true, lt-ltb, eq-eqb, ne_eqb}
 use lib.Dec.{eqb, ltb}
 use lib.ListN.{length, take, drop}
 use Rattle.answer.specs.Table.{answered, open_so_far, no_such_opening}
+use Rattle.answer.specs.Refusals.{number_of}
+use Rattle.answer.specs.declared.Refusal.{Refusal}
+use Rattle.answer.specs.declared.Refusal.TheVariants as r
 use Rattle.message.specs.Bytes.{part}
 use Rattle.params.specs.declared.Params.{Params}
 use Rattle.params.specs.Admission.{admission, admits}
 use Rattle.params.specs.Parameters.{Valid, opening_length, query_length, opening_offset, file_length, if_valid}
 use Rattle.params.proofs.ParameterLaws.{from_valid}
-use Rattle.params.proofs.AdmissionLaws.{admitted-valid, admits_false, admitted_or_not}
+use Rattle.params.proofs.AdmissionLaws.{admitted, admitted-valid}
 use Rattle.look_up.specs.declared.Span.{Span}
-use Rattle.look_up.specs.LookUp.{present, found, look_up_number, look_up_answer, look_up_part, look_up_span, look_up_place}
+use Rattle.look_up.specs.LookUp.{present, found, look_up_number, look_up_answer, look_up_part, span_of, look_up_span, look_up_place}
 
 both : (a b : Bool) → (a && b) ≡ true → (a ≡ true) × (b ≡ true)
 both true b e = (refl, e)
@@ -63,55 +66,42 @@ opening_within p i j h l =
     let less : suc i * query_length p 0 p.k ≤ p.q * query_length p 0 p.k = mul-le-mul_right (query_length p 0 p.k) (omega arith) in
     omega (arith, more, less, layer_within p 0 j j p.k (omega arith) l)
 
--- The tests of the code: where the arguments are not admitted the length is not asked.
-pub found_test : {w n : ℕ} (p : Params) (size i j : ℕ) → w ≡ if_valid p (file_length p) → n ≡ admission p
-    → (eqb n open_so_far && (eqb size w && (ltb i p.q && ltb j p.k))) ≡ found p size i j
-unfolding present
-found_test {w} {n} p size i j e f = by (admitted_or_not p)
+-- The span of an opening that is there, and of one that is not; and where the parameters are refused.
+pub span_found : {s l : ℕ} (p : Params) (size i j : ℕ) → Valid p → size ≡ file_length p → i < p.q → j < p.k → s ≡ if_valid p (opening_offset p i j)
+    → l ≡ opening_length p j → span_of open_so_far s l ≡ look_up_span p size i j
+unfolding look_up_span look_up_number
+span_found p size i j v e h k a b = rw (admitted p v, present_test p size i j e h k, from_valid p _ v a, b)
+
+pub span_absent : (p : Params) (size i j : ℕ) → Valid p → ¬ HasOpening p size i j → span_of no_such_opening 0 0 ≡ look_up_span p size i j
+unfolding look_up_span look_up_number
+span_absent p size i j v n = rw (admitted p v, none (present p size i j) refl)
   where
-    by : Dec (admission p ≡ open_so_far) → (eqb n open_so_far && (eqb size w && (ltb i p.q && ltb j p.k))) ≡ found p size i j
-    by (yes v) = rw (f, from_valid p (file_length p) (admitted-valid p v) e)
-    by (no r) = rw (f, admits_false p r)
+    none : (b : Bool) → present p size i j ≡ b → b ≡ false
+    none true e = absurd (n (found_facts p size i j (rw (admitted p v) e)))
+    none false e = refl
 
--- The number, by the code's tests.
-pub number-refused : (n : ℕ) (w : Bool) → (n ≡ open_so_far → ⊥) → n ≡ look_up_number n w
-unfolding look_up_number
-number-refused n w e = rw (ne_eqb n open_so_far e)
+not_open : (r : Refusal) → ¬ (number_of r ≡ open_so_far)
+not_open r.ParametersNotValid e = omega arith
+not_open r.Closed e = omega arith
+not_open r.JobTooShort e = omega arith
+not_open r.MessageTooLong e = omega arith
+not_open r.InverseOfZero e = omega arith
+not_open r.NoSuchOpening e = omega arith
+not_open r.CountDiffers e = omega arith
+not_open r.ParametersDiffer e = omega arith
+not_open r.NotBelowModulus e = omega arith
+not_open r.PathMissesRoot e = omega arith
+not_open r.NotTheFoldedValue e = omega arith
+not_open r.MissesFinalPolynomial e = omega arith
+not_open r.TooFewBytes e = omega arith
+not_open r.ByteAfterTheEnd e = omega arith
+not_open r.WrongCoefficientCount e = omega arith
+not_open r.ScratchTooShort e = omega arith
+not_open r.OutputTooShort e = omega arith
 
-pub number_absent : (n : ℕ) (w : Bool) → n ≡ open_so_far → not w ≡ true → no_such_opening ≡ look_up_number n w
-unfolding look_up_number
-number_absent n w e f = rw (e, not-true w f)
-
-pub number_open : (n : ℕ) (w : Bool) → n ≡ open_so_far → not w ≡ false → open_so_far ≡ look_up_number n w
-unfolding look_up_number
-number_open n w e f = rw (e, not-false w f)
-
-pub ruleset numbers = (number-refused, number_absent, number_open)
-
-number-found : (n : ℕ) (w : Bool) → look_up_number n (eqb n open_so_far && w) ≡ look_up_number n w
-unfolding look_up_number
-number-found n w = by (eqb n open_so_far)
-  where
-    by : (b : Bool) → cond b (cond (b && w) open_so_far no_such_opening) n ≡ cond b (cond w open_so_far no_such_opening) n
-    by true = refl
-    by false = refl
-
-number_same : {n m : ℕ} {t : Bool} (p : Params) (size i j : ℕ) → m ≡ admission p → t ≡ found p size i j → n ≡ look_up_number m t
-    → n ≡ look_up_number (admission p) (present p size i j)
-number_same p size i j e f g = rw (g, e, f) (number-found (admission p) (present p size i j))
-
--- The span, found and not.
-pub span_found : {n m s l : ℕ} {t : Bool} (p : Params) (size i j : ℕ) → m ≡ admission p → t ≡ found p size i j → n ≡ look_up_number m t → t ≡ true
-    → s ≡ if_valid p (opening_offset p i j) → l ≡ opening_length p j
-    → ◌≡◌ {A = Span} (record { number = n; place = 0; start = s; length = l }) (look_up_span p size i j)
-unfolding look_up_span
-span_found p size i j e f g h a b =
-    rw (number_same p size i j e f g, from_valid p _ (found_facts p size i j (sym f ∙ h)).is_valid a, b, sym f ∙ h)
-
-pub span_none : {n m : ℕ} {t : Bool} (p : Params) (size i j : ℕ) → m ≡ admission p → t ≡ found p size i j → n ≡ look_up_number m t → t ≡ false
-    → ◌≡◌ {A = Span} (record { number = n; place = 0; start = 0; length = 0 }) (look_up_span p size i j)
-unfolding look_up_span
-span_none p size i j e f g h = rw (number_same p size i j e f g, sym f ∙ h)
+pub span_refused : (p : Params) (size i j : ℕ) (r : Refusal) → number_of r ≡ admission p → span_of (number_of r) 0 0 ≡ look_up_span p size i j
+unfolding look_up_span look_up_number
+span_refused p size i j r e = rw (e, ne_eqb (admission p) open_so_far (λ f. not_open r (e ∙ f)))
 
 -- What a caller takes by the span lies within the file, and is the part.
 within_by : (t : Bool) (s l size : ℕ) → (t ≡ true → s + l ≤ size) → cond t s 0 + cond t l 0 ≤ size
@@ -134,13 +124,12 @@ pub span_part : (p : Params) (file : List ℕ) (i j : ℕ)
 unfolding look_up_span look_up_part
 span_part p file i j = part_by (found p (length file) i j) (opening_offset p i j) (opening_length p j) file
 
--- The span's answer is the look-up's.
-pub span_answer : (p : Params) (file : List ℕ) (i j : ℕ)
-    → answered (look_up_span p (length file) i j).number (look_up_span p (length file) i j).place ≡ look_up_answer p file i j
-unfolding look_up_span look_up_answer
-span_answer p file i j = refl
-
 -- The span's laws, of the numbers that the code has.
+pub cut_answer : {s : Span} (p : Params) (file : List ℕ) (i j : ℕ) → s ≡ look_up_span p (length file) i j
+    → answered s.number s.place ≡ look_up_answer p file i j
+unfolding look_up_span look_up_answer
+cut_answer p file i j e = ap (λ (u : Span). answered u.number u.place) e
+
 pub cut_within : {s : Span} (p : Params) (size i j : ℕ) → s ≡ look_up_span p size i j → s.start + s.length ≤ size
 cut_within p size i j e = rw e (span_within p size i j)
 

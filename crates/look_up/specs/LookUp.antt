@@ -27,6 +27,10 @@ look_up_answer p file i j = answered (look_up_number (admission p) (present p (l
 unfoldable pub look_up_part : Params → List ℕ → ℕ → ℕ → List ℕ
 look_up_part p file i j = cond (found p (length file) i j) (part (opening_offset p i j) (opening_length p j) file) []
 
+-- A span at place 0.
+abbrev pub span_of : ℕ → ℕ → ℕ → Span
+span_of number start length = record { number = number; place = 0; start = start; length = length }
+
 -- The same as numbers, for a caller who takes the part: where it starts and how many bytes it has, 0 and 0 where there is none.
 unfoldable pub look_up_span : Params → ℕ → ℕ → ℕ → Span
 look_up_span p size i j =

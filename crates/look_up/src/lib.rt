@@ -1,13 +1,16 @@
 // The look-up of one opening in a whole proof (document 01, "When the reader says no"): the caller's own bytes are handed back, not copied. It doesn't judge.
 #![tactic(auto)]
 
-ghost use Rattle.std.specs.Prelude.{◌≡◌};
+ghost use Rattle.std.specs.Prelude.{◌≡◌, MatchResult};
+ghost use Rattle.answer.specs.Table.{open_so_far};
+ghost use Rattle.answer.specs.Refusals.{number_of};
 ghost use Rattle.look_up.specs.LookUp as spec;
 
-use answer::Answer;
+use answer::{Answer, Refusal};
 use params::Params;
 
 // The answer, and the part of the proof as numbers: an exported call cannot return a reference, so its caller takes the part.
+// Stays: the C interface; `exports::phieulakhon_look_up` returns it.
 #[repr(C)]
 #[derive(Clone, Copy)]
 pub struct Span {
@@ -17,75 +20,51 @@ pub struct Span {
     pub length: usize,
 }
 
-// Whether a proof of a length has the opening of a query in a layer.
-fn is_found(p: Params, length: usize, query: usize, layer: usize) -> bool
-    ensures { result ≡ spec.found p length query layer }
-{
-    let whole = params::file_length(p);
-    let q = p.q as usize;
-    let k = p.k as usize;
-    (params::admission(p) == answer::OPEN) & ((length == whole) & ((query < q) & (layer < k)))
+// Where an opening stands in a proof, and how many bytes it has.
+#[derive(Clone, Copy)]
+struct Opening {
+    start: usize,
+    length: usize,
 }
 
-fn look_up_number(admission: u8, present: bool) -> u8
-    ensures { result ≡ spec.look_up_number admission present }
+// The opening of a query in a layer, in a proof of a length.
+fn opening_of(p: Params, length: usize, query: usize, layer: usize) -> Result<Opening, Refusal>
+    ensures { MatchResult result (λ o. spec.span_of open_so_far o.start o.length ≡ spec.look_up_span p length query layer) (λ r. spec.span_of (number_of r) 0 0 ≡ spec.look_up_span p length query layer) }
 {
-    if admission != answer::OPEN {
-        return admission;
+    let p = params::admitted(p)?.params;
+    if length != params::file_length(p) || query >= p.q as usize || layer >= p.k as usize {
+        return Err(Refusal::NoSuchOpening);
     }
-    if !present {
-        return answer::NO_SUCH_OPENING;
-    }
-    answer::OPEN
+    let i = query as u8;
+    let j = layer as u8;
+    Ok(Opening {
+        start: params::opening_offset(p, i, j),
+        length: params::opening_length(p, j),
+    })
 }
 
 // The look-up in a proof of a length.
 pub fn look_up_span(p: Params, length: usize, query: usize, layer: usize) -> Span
     ensures { result ≡ spec.look_up_span p length query layer }
 {
-    let found = is_found(p, length, query, layer);
-    let number = look_up_number(params::admission(p), found);
-    if found {
-        let i = query as u8;
-        let j = layer as u8;
-        let start = params::opening_offset(p, i, j);
-        let size = params::opening_length(p, j);
-        Span {
-            number,
+    match opening_of(p, length, query, layer) {
+        Ok(opening) => Span {
+            number: answer::OPEN,
             place: 0,
-            start,
-            length: size,
-        }
-    } else {
-        Span {
-            number,
+            start: opening.start,
+            length: opening.length,
+        },
+        Err(refusal) => Span {
+            number: refusal.number(),
             place: 0,
             start: 0,
             length: 0,
-        }
+        },
     }
-}
-
-fn look_up_answer(p: Params, proof: &[u8], query: usize, layer: usize) -> Answer
-    ensures { result ≡ spec.look_up_answer p proof.now query layer }
-{
-    let span = look_up_span(p, proof.len(), query, layer);
-    Answer {
-        number: span.number,
-        place: span.place,
-    }
-}
-
-fn look_up_part(p: Params, proof: &[u8], query: usize, layer: usize) -> &[u8]
-    ensures { (result.now ≡ spec.look_up_part p proof.now query layer) × (result.ref_ptr ≡ spec.look_up_place p proof.entry.ref_ptr proof.now query layer) }
-{
-    let span = look_up_span(p, proof.len(), query, layer);
-    let start = span.start;
-    let end = start + span.length;
-    &proof[start..end]
 }
 
 // The answer, and the opening's bytes where they stand in the proof.
+// Stays: a clause of `look_up` says that a refusal's part is empty, and where it stands.
 #[derive(Clone, Copy)]
 pub struct Found<'a> {
     pub answer: Answer,
@@ -95,7 +74,12 @@ pub struct Found<'a> {
 pub fn look_up<'a>(p: Params, proof: &'a [u8], query: usize, layer: usize) -> Found<'a>
     ensures { (result.answer ≡ spec.look_up_answer p proof.now query layer) × (result.part.now ≡ spec.look_up_part p proof.now query layer) × (result.part.ref_ptr ≡ spec.look_up_place p proof.entry.ref_ptr proof.now query layer) }
 {
-    let answer = look_up_answer(p, proof, query, layer);
-    let part = look_up_part(p, proof, query, layer);
-    Found { answer, part }
+    let span = look_up_span(p, proof.len(), query, layer);
+    Found {
+        answer: Answer {
+            number: span.number,
+            place: span.place,
+        },
+        part: &proof[span.start..span.start + span.length],
+    }
 }

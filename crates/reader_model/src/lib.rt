@@ -8,17 +8,17 @@ use params::Params;
 // What the current item is. Tail: the file is whole, and one byte more would be too many. Stopped: refused or closed, no item is read any more.
 #[derive(Clone, Copy, Debug, PartialEq, Eq)]
 pub enum Stage {
-    ParameterCount,
-    Parameters,
-    RootCount,
-    Root,
-    CoefficientCount,
-    Coefficient,
-    QueryCount,
-    Value,
-    Sibling,
-    Tail,
-    Stopped,
+    ParameterCount = 1,
+    Parameters = 2,
+    RootCount = 3,
+    Root = 4,
+    CoefficientCount = 5,
+    Coefficient = 6,
+    QueryCount = 7,
+    Value = 8,
+    Sibling = 9,
+    Tail = 10,
+    Stopped = 0,
 }
 
 // The sizes of the state's arrays: for 16 layers of one root each, 64 final coefficients, and leaves of 4 values.
