@@ -3,12 +3,17 @@
 use mathlib.Core.Path.{◌≡◌, refl, sym, ap, ◌∙◌}
 use mathlib.Core.List.{List, ◌++◌}
 use Prim.Native.Nat.{ℕ}
+use native.Mathlib.Omega.{arith}
 use lib.ListN.{length}
 use Rattle.std.proofs.lemmas.List.{nil_from_length}
 use Rattle.sha256.specs.Sha256.{sha256}
 use Rattle.answer.specs.declared.Answer.{Answer}
-use Rattle.answer.specs.Table.{open_so_far}
+use Rattle.answer.specs.Table.{answered, open_so_far}
+use Rattle.answer.specs.Refusals.{number_of}
+use Rattle.answer.specs.declared.Refusal.{Refusal}
+use Rattle.answer.specs.declared.Refusal.TheVariants as r
 use Rattle.params.specs.declared.Terms.{Terms}
+use Rattle.params.specs.Admission.{admission}
 use Rattle.fri.specs.Judge.{verdict}
 use Rattle.reader_model.specs.declared.Reader.{Reader}
 use Rattle.reader_model.specs.declared.Reply.{Reply}
@@ -22,20 +27,37 @@ pub piece-state : (r : Reader) (bytes : List ℕ) {reply : Reply} → reply ≡ 
 unfolding pieced
 piece-state r bytes e = ap (λ (x : Reply). x.state) e
 
--- The opening's own answer tells whether it is admitted.
-pub admitted-verdict : (a : Terms) (bytes : List ℕ) {start end : Reply} {last : Reader} → start ≡ opened sha256 a → start.answer.number ≡ open_so_far
+-- The verdict of an admitted opening, and a refused one's.
+pub admitted-verdict : (a : Terms) (bytes : List ℕ) {start end : Reply} {last : Reader} → open_so_far ≡ admission a.params → start ≡ opened sha256 a
     → last ≡ fed sha256 start.state bytes → end ≡ ended last → end.answer ≡ verdict sha256 a bytes
-unfolding opened
-admitted-verdict a bytes e n f g =
+admitted-verdict a bytes v e f g =
     ap (λ (x : Reply). x.answer) g
     ∙ ap (λ (x : Reader). (ended x).answer) (f ∙ ap (λ (x : Reply). fed sha256 x.state bytes) e)
-    ∙ verdict-fed sha256 a (sym (ap (λ (x : Reply). x.answer.number) e) ∙ n) bytes
+    ∙ verdict-fed sha256 a (sym v) bytes
 
-pub refused-verdict : (a : Terms) (bytes : List ℕ) {start : Reply} → start ≡ opened sha256 a → ¬ (start.answer.number ≡ open_so_far)
-    → start.answer ≡ verdict sha256 a bytes
+not_open : (r : Refusal) → ¬ (number_of r ≡ open_so_far)
+not_open r.ParametersNotValid e = omega arith
+not_open r.Closed e = omega arith
+not_open r.JobTooShort e = omega arith
+not_open r.MessageTooLong e = omega arith
+not_open r.InverseOfZero e = omega arith
+not_open r.NoSuchOpening e = omega arith
+not_open r.CountDiffers e = omega arith
+not_open r.ParametersDiffer e = omega arith
+not_open r.NotBelowModulus e = omega arith
+not_open r.PathMissesRoot e = omega arith
+not_open r.NotTheFoldedValue e = omega arith
+not_open r.MissesFinalPolynomial e = omega arith
+not_open r.TooFewBytes e = omega arith
+not_open r.ByteAfterTheEnd e = omega arith
+not_open r.WrongCoefficientCount e = omega arith
+not_open r.ScratchTooShort e = omega arith
+not_open r.OutputTooShort e = omega arith
+
+pub refused-verdict : (a : Terms) (r : Refusal) → number_of r ≡ admission a.params → (bytes : List ℕ)
+    → answered (number_of r) 0 ≡ verdict sha256 a bytes
 unfolding opened
-refused-verdict a bytes e n =
-    ap (λ (x : Reply). x.answer) e ∙ verdict-refused sha256 a bytes (λ v. n (ap (λ (x : Reply). x.answer.number) e ∙ v))
+refused-verdict a r e bytes = ap (λ (n : ℕ). answered n 0) e ∙ verdict-refused sha256 a bytes (λ f. not_open r (e ∙ f))
 
 -- What a caller holds after a piece, and what the end call answers it.
 pub fed-piece : {s r : Reader} {x : Outcome} (bytes : List ℕ) → s ≡ r → x ≡ outcome_of (pieced sha256 s bytes) → reader_of x.held ≡ fed sha256 r bytes
@@ -58,15 +80,8 @@ pub ended-verdict : {x y : Answer} {r s : Reader} → x ≡ (ended r).answer →
 ended-verdict e f g = e ∙ ap (λ (r : Reader). (ended r).answer) f ∙ g
 
 -- The same of what a caller holds after the opening.
-pub admitted-outcome : (a : Terms) (bytes : List ℕ) {start : Outcome} → start ≡ outcome_of (opened sha256 a)
-    → start.answer.number ≡ open_so_far → (ended (fed sha256 (reader_of start.held) bytes)).answer ≡ verdict sha256 a bytes
-admitted-outcome a bytes e n =
+pub admitted-outcome : (a : Terms) {x : Outcome} → open_so_far ≡ admission a.params → x ≡ outcome_of (opened sha256 a)
+    → (bytes : List ℕ) → (ended (fed sha256 (reader_of x.held) bytes)).answer ≡ verdict sha256 a bytes
+admitted-outcome a v e bytes =
     let first = opened sha256 a in
-    admitted-verdict a bytes {start = first} refl (sym (ap (λ (x : Answer). x.number) (answered_by first e)) ∙ n)
-    (ap (λ (r : Reader). fed sha256 r bytes) (left_by first e)) refl
-
-pub refused-outcome : (a : Terms) (bytes : List ℕ) {start : Outcome} → start ≡ outcome_of (opened sha256 a) → ¬ (start.answer.number ≡ open_so_far)
-    → start.answer ≡ verdict sha256 a bytes
-refused-outcome a bytes e n =
-    let first = opened sha256 a in
-    answered_by first e ∙ refused-verdict a bytes {start = first} refl (λ m. n (ap (λ (x : Answer). x.number) (answered_by first e) ∙ m))
+    admitted-verdict a bytes {start = first} v refl (ap (λ (r : Reader). fed sha256 r bytes) (left_by first e)) refl

@@ -1,12 +1,14 @@
 // A reader as callers in C hold it.
 ghost use Rattle.std.specs.Prelude.{◌≡◌, ℕ, List, MatchResult};
 ghost use Rattle.sha256.specs.Sha256.{sha256};
+ghost use Rattle.answer.specs.Table.{answered};
+ghost use Rattle.answer.specs.Refusals.{number_of};
 ghost use Rattle.fri.specs.Judge as judge;
 ghost use Rattle.reader_model.specs.Model.{fed, ended};
 ghost use Rattle.reader_model.specs.declared.Reader.{Reader};
 ghost use Rattle.lent_reader.specs.Held.{held, reader_of, zeros};
 
-use answer::Answer;
+use answer::{Answer, Refusal};
 use lent_reader::{SIZES, U8S, U32S};
 use params::Terms;
 use reader_model::{CHALLENGES, COEFFICIENTS, ROOTS};
@@ -51,10 +53,11 @@ impl Kept {
     }
 
     // What the reader gives at its end is the verdict on what it was fed; a refusal is the verdict on any bytes.
-    pub fn open(&mut self, a: Terms) -> Result<(), Answer>
-        ensures { MatchResult result (λ _. (bytes : List ℕ) → (ended (fed sha256 self.new bytes)).answer ≡ judge.verdict sha256 a bytes) (λ refusal. (bytes : List ℕ) → refusal ≡ judge.verdict sha256 a bytes) }
+    pub fn open(&mut self, a: Terms) -> Result<(), Refusal>
+        ensures { MatchResult result (λ _. (bytes : List ℕ) → (ended (fed sha256 self.new bytes)).answer ≡ judge.verdict sha256 a bytes) (λ refusal. (bytes : List ℕ) → answered (number_of refusal) 0 ≡ judge.verdict sha256 a bytes) }
     {
-        let start = lent_reader::open(
+        params::admitted(a.params)?;
+        lent_reader::open(
             a,
             &mut self.u8s,
             &mut self.u32s,
@@ -66,9 +69,6 @@ impl Kept {
             &mut self.challenges,
             &mut self.coefficients,
         );
-        if start.number != answer::OPEN {
-            return Err(start);
-        }
         Ok(())
     }
 

@@ -15,11 +15,11 @@ use params::Terms;
 pub fn whole(a: Terms, proof: &[u8]) -> Answer
     ensures { result ≡ judge.verdict sha256 a proof.now }
 {
-    let start = reader::open(a);
-    if start.answer.number != answer::OPEN {
-        return start.answer;
+    if let Err(refusal) = params::admitted(a.params) {
+        return refusal.at(0);
     }
-    let read = reader::piece(start.state, proof);
+    let opened = reader::open(a);
+    let read = reader::piece(opened.state, proof);
     reader::end(read.state).answer
 }
 
@@ -29,7 +29,7 @@ pub fn in_pieces(a: Terms, proof: &[u8], size: usize) -> Answer
 {
     let mut reader = Kept::zeros();
     if let Err(refusal) = reader.open(a) {
-        return refusal;
+        return refusal.at(0);
     }
     for part in proof.chunks(size.max(1)) {
         reader.piece(part);

@@ -1,9 +1,10 @@
+use mathlib.Core.Path.{◌∙◌}
 use Rattle.verdict.proofs.Laws.{piece-state, admitted-verdict, refused-verdict}
 use Rattle.verdict.proofs.whole.Goals as goal
 
-pub returns-then-start-ne-OPEN : goal.returns-then-start-ne-OPEN
-returns-then-start-ne-OPEN c = refused-verdict _ _ c.open-start.ensures c.if-start-ne-OPEN.true
+pub returns-in-Err : goal.returns-in-Err
+returns-in-Err c = c.at.ensures ∙ refused-verdict _ _ c.in-Err.ensures.number _
 
 pub returns : goal.returns
 returns c =
-    admitted-verdict _ _ c.open-start.ensures c.if-start-ne-OPEN.false (piece-state _ _ c.piece-read.ensures) c.end.ensures
+    admitted-verdict _ _ c.in_default.ensures.number c.open-opened.ensures (piece-state _ _ c.piece-read.ensures) c.end.ensures
