@@ -23,10 +23,9 @@ use reader_model::{CHALLENGES, COEFFICIENTS, ROOTS};
 pub extern "C" fn phieulakhon_verdict(p: Params, context: &[u8; 32], proof: &[u8]) -> Answer
     ensures { result ≡ judge.verdict sha256 (terms_of p context.now) proof.now }
 {
-    let c = *context;
     let a = Terms {
         params: p,
-        context: c,
+        context: *context,
     };
     verdict::whole(a, proof)
 }
@@ -40,6 +39,7 @@ pub extern "C" fn phieulakhon_file_length(p: Params) -> usize
 }
 
 // The opening. What the caller holds of a reader is nine arrays (lent_reader says what each has); all are written, whatever they held.
+// Stays: the C interface; the nine travel apart here, in `phieulakhon_piece` and in `phieulakhon_end`.
 #[unsafe(no_mangle)]
 pub extern "C" fn phieulakhon_open(
     p: Params,
@@ -56,10 +56,9 @@ pub extern "C" fn phieulakhon_open(
 ) -> Answer
     ensures { outcome result u8s.new u32s.new sizes.new item.new node.new transcript.new roots.new challenges.new coefficients.new ≡ outcome_of (opened sha256 (terms_of p context.now)) }
 {
-    let c = *context;
     let a = Terms {
         params: p,
-        context: c,
+        context: *context,
     };
     lent_reader::open(
         a,
@@ -156,6 +155,5 @@ pub extern "C" fn phieulakhon_write(
     ensures numbers_after { numbers.new ≡ (writer.written sha256 p context.now coefficients.now numbers.old bytes.old output.old).numbers }
     ensures bytes_after { bytes.new ≡ (writer.written sha256 p context.now coefficients.now numbers.old bytes.old output.old).bytes }
 {
-    let c = *context;
-    writer::write(p, c, coefficients, numbers, bytes, output)
+    writer::write(p, *context, coefficients, numbers, bytes, output)
 }

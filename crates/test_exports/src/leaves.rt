@@ -6,6 +6,7 @@ ghost use Rattle.felt.specs.Checked.{sum_answer, difference_answer, product_answ
 
 use answer::Answer;
 use felt::{Felt, FieldAnswer};
+use sha256::Hashed;
 
 // The digest goes to `out`.
 #[unsafe(no_mangle)]
@@ -13,61 +14,51 @@ pub extern "C" fn test_hash(message: &[u8], out: &mut [u8; 32]) -> Answer
     ensures value { result ≡ (hashed message.now).answer }
     ensures out_after { out.new ≡ (hashed message.now).digest }
 {
-    let h = sha256::hash(message);
-    let d = h.digest;
-    *out = d;
-    h.answer
+    let Hashed { answer, digest } = sha256::hash(message);
+    *out = digest;
+    answer
 }
 
 #[unsafe(no_mangle)]
 pub extern "C" fn test_sum(a: u32, b: u32) -> FieldAnswer
     ensures { result ≡ sum_answer a b }
 {
-    let x = Felt { value: a };
-    let y = Felt { value: b };
-    x.sum(y)
+    Felt { value: a }.sum(Felt { value: b })
 }
 
 #[unsafe(no_mangle)]
 pub extern "C" fn test_difference(a: u32, b: u32) -> FieldAnswer
     ensures { result ≡ difference_answer a b }
 {
-    let x = Felt { value: a };
-    let y = Felt { value: b };
-    x.difference(y)
+    Felt { value: a }.difference(Felt { value: b })
 }
 
 #[unsafe(no_mangle)]
 pub extern "C" fn test_product(a: u32, b: u32) -> FieldAnswer
     ensures { result ≡ product_answer a b }
 {
-    let x = Felt { value: a };
-    let y = Felt { value: b };
-    x.product(y)
+    Felt { value: a }.product(Felt { value: b })
 }
 
 #[unsafe(no_mangle)]
 pub extern "C" fn test_negation(a: u32) -> FieldAnswer
     ensures { result ≡ negation_answer a }
 {
-    let x = Felt { value: a };
-    x.negation()
+    Felt { value: a }.negation()
 }
 
 #[unsafe(no_mangle)]
 pub extern "C" fn test_power(a: u32, e: u32) -> FieldAnswer
     ensures { result ≡ power_answer a e }
 {
-    let x = Felt { value: a };
-    x.power(e)
+    Felt { value: a }.power(e)
 }
 
 #[unsafe(no_mangle)]
 pub extern "C" fn test_inverse(a: u32) -> FieldAnswer
     ensures { result ≡ inverse_answer a }
 {
-    let x = Felt { value: a };
-    x.inverse()
+    Felt { value: a }.inverse()
 }
 
 #[unsafe(no_mangle)]

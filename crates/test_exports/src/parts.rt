@@ -60,19 +60,14 @@ pub extern "C" fn test_point(n: u8, layer: u8, index: u32) -> u32
 pub extern "C" fn test_leaf(a: u32, c: u32, out: &mut [u8; 32])
     ensures { out.new ≡ merkle.leaf_digest sha256 0 (a ∷ c ∷ []) }
 {
-    let values = [a, c, 0, 0];
-    let d = merkle::leaf_digest(0, values, 2);
-    *out = d;
+    *out = merkle::leaf_digest(0, [a, c, 0, 0], 2);
 }
 
 #[unsafe(no_mangle)]
 pub extern "C" fn test_node(left: &[u8; 32], right: &[u8; 32], out: &mut [u8; 32])
     ensures { out.new ≡ merkle.node sha256 left.now right.now }
 {
-    let l = *left;
-    let r = *right;
-    let d = merkle::node(l, r);
-    *out = d;
+    *out = merkle::node(*left, *right);
 }
 
 #[unsafe(no_mangle)]
@@ -84,50 +79,37 @@ pub extern "C" fn test_parent(
 )
     ensures { out.new ≡ merkle.parent sha256 (index % 2) child.now sibling.now }
 {
-    let c = *child;
-    let s = *sibling;
-    let d = merkle::parent(c, index, s);
-    *out = d;
+    *out = merkle::parent(*child, index, *sibling);
 }
 
 #[unsafe(no_mangle)]
 pub extern "C" fn test_climb(leaf: &[u8; 32], index: usize, siblings: &[u8], out: &mut [u8; 32])
     ensures { out.new ≡ merkle.climb sha256 leaf.now index (merkle.digests (length siblings.now / 32) siblings.now) }
 {
-    let l = *leaf;
-    let d = merkle::climb(l, index, siblings);
-    *out = d;
+    *out = merkle::climb(*leaf, index, siblings);
 }
 
 #[unsafe(no_mangle)]
 pub extern "C" fn test_start(p: Params, context: &[u8; 32], out: &mut [u8; 32])
     ensures { out.new ≡ transcript.start sha256 (parameters.header p) context.now }
 {
-    let c = *context;
-    let t = Transcript::start(p, c);
-    let s = t.state;
-    *out = s;
+    let Transcript { state } = Transcript::start(p, *context);
+    *out = state;
 }
 
 #[unsafe(no_mangle)]
 pub extern "C" fn test_absorb_root(state: &[u8; 32], root: &[u8; 32], out: &mut [u8; 32])
     ensures { out.new ≡ transcript.absorb sha256 state.now root.now }
 {
-    let s = *state;
-    let r = *root;
-    let t = Transcript { state: s };
-    let u = t.absorb_root(r);
-    let v = u.state;
-    *out = v;
+    let Transcript { state: after } = Transcript { state: *state }.absorb_root(*root);
+    *out = after;
 }
 
 #[unsafe(no_mangle)]
 pub extern "C" fn test_challenge(state: &[u8; 32]) -> u32
     ensures { result ≡ transcript.challenge sha256 state.now }
 {
-    let s = *state;
-    let t = Transcript { state: s };
-    t.challenge()
+    Transcript { state: *state }.challenge()
 }
 
 #[unsafe(no_mangle)]
@@ -139,21 +121,18 @@ pub extern "C" fn test_absorb_final(
 )
     ensures { out.new ≡ transcript.absorb_final sha256 state.now (take count coefficients.now) }
 {
-    let s = *state;
-    let cs = *coefficients;
-    let t = Transcript { state: s };
-    let u = t.absorb_final(cs, count);
-    let v = u.state;
-    *out = v;
+    let Transcript { state: after } = Transcript { state: *state }.absorb_final(
+        *coefficients,
+        count,
+    );
+    *out = after;
 }
 
 #[unsafe(no_mangle)]
 pub extern "C" fn test_draw(state: &[u8; 32], p: Params, query: u8) -> u32
     ensures { result ≡ transcript.draw sha256 state.now (parameters.index_bits p) query }
 {
-    let s = *state;
-    let t = Transcript { state: s };
-    t.draw(p, query)
+    Transcript { state: *state }.draw(p, query)
 }
 
 #[unsafe(no_mangle)]
@@ -174,8 +153,7 @@ pub extern "C" fn test_next(x: u32, beta: u32, a: u32, c: u32) -> u32
 pub extern "C" fn test_eval(coefficients: &[u32; 64], count: usize, x: u32) -> u32
     ensures { result ≡ poly.eval (take count coefficients.now) x }
 {
-    let cs = *coefficients;
-    fold::eval(cs, count, x)
+    fold::eval(*coefficients, count, x)
 }
 
 #[unsafe(no_mangle)]

@@ -12,10 +12,9 @@ use params::{Params, Terms};
 pub extern "C" fn test_verdict(p: Params, context: &[u8; 32], proof: &[u8]) -> Answer
     ensures { result ≡ judge.verdict sha256 (terms_of p context.now) proof.now }
 {
-    let c = *context;
     let a = Terms {
         params: p,
-        context: c,
+        context: *context,
     };
     verdict::whole(a, proof)
 }
@@ -29,10 +28,9 @@ pub extern "C" fn test_verdict_in_pieces(
 ) -> Answer
     ensures { result ≡ judge.verdict sha256 (terms_of p context.now) proof.now }
 {
-    let c = *context;
     let a = Terms {
         params: p,
-        context: c,
+        context: *context,
     };
     verdict::in_pieces(a, proof, size)
 }
@@ -51,6 +49,5 @@ pub extern "C" fn test_write(
     ensures numbers_after { numbers.new ≡ (writer.written sha256 p context.now coefficients.now numbers.old bytes.old output.old).numbers }
     ensures bytes_after { bytes.new ≡ (writer.written sha256 p context.now coefficients.now numbers.old bytes.old output.old).bytes }
 {
-    let c = *context;
-    writer::write(p, c, coefficients, numbers, bytes, output)
+    writer::write(p, *context, coefficients, numbers, bytes, output)
 }
