@@ -1,6 +1,6 @@
 -- The answers of open, piece and end together are the verdict on the bytes that were fed, in whatever pieces.
 -- Assumes nothing.
-use mathlib.Core.Path.{◌≡◌, refl, sym, ap, ◌∙◌}
+use mathlib.Core.Path.{◌≡◌, sym, ap, ◌∙◌}
 use mathlib.Core.List.{List, ◌++◌}
 use Prim.Native.Nat.{ℕ}
 use native.Mathlib.Omega.{arith}
@@ -16,25 +16,12 @@ use Rattle.params.specs.declared.Terms.{Terms}
 use Rattle.params.specs.Admission.{admission}
 use Rattle.fri.specs.Judge.{verdict}
 use Rattle.reader_model.specs.declared.Reader.{Reader}
-use Rattle.reader_model.specs.declared.Reply.{Reply}
 use Rattle.reader_model.specs.Model.{opened, pieced, fed, ended}
 use Rattle.lent_reader.specs.Held.{Outcome, reader_of, outcome_of}
 use Rattle.lent_reader.proofs.Through.{left_by, answered_by}
 use Rattle.reader_model.proofs.Theorem.{fed_none, fed-append, verdict-fed, verdict-refused}
 
--- The state that a piece leaves.
-pub piece-state : (r : Reader) (bytes : List ℕ) {reply : Reply} → reply ≡ pieced sha256 r bytes → reply.state ≡ fed sha256 r bytes
-unfolding pieced
-piece-state r bytes e = ap (λ (x : Reply). x.state) e
-
--- The verdict of an admitted opening, and a refused one's.
-pub admitted-verdict : (a : Terms) (bytes : List ℕ) {start end : Reply} {last : Reader} → open_so_far ≡ admission a.params → start ≡ opened sha256 a
-    → last ≡ fed sha256 start.state bytes → end ≡ ended last → end.answer ≡ verdict sha256 a bytes
-admitted-verdict a bytes v e f g =
-    ap (λ (x : Reply). x.answer) g
-    ∙ ap (λ (x : Reader). (ended x).answer) (f ∙ ap (λ (x : Reply). fed sha256 x.state bytes) e)
-    ∙ verdict-fed sha256 a (sym v) bytes
-
+-- The verdict where the opening is refused.
 not_open : (r : Refusal) → ¬ (number_of r ≡ open_so_far)
 not_open r.ParametersNotValid e = omega arith
 not_open r.Closed e = omega arith
@@ -79,9 +66,8 @@ fed-all r rest e f = sym (fed_none sha256 r) ∙ ap (fed sha256 r) (sym (nil_fro
 pub ended-verdict : {x y : Answer} {r s : Reader} → x ≡ (ended r).answer → r ≡ s → (ended s).answer ≡ y → x ≡ y
 ended-verdict e f g = e ∙ ap (λ (r : Reader). (ended r).answer) f ∙ g
 
--- The same of what a caller holds after the opening.
+-- What a caller holds after an opening that is admitted.
 pub admitted-outcome : (a : Terms) {x : Outcome} → open_so_far ≡ admission a.params → x ≡ outcome_of (opened sha256 a)
     → (bytes : List ℕ) → (ended (fed sha256 (reader_of x.held) bytes)).answer ≡ verdict sha256 a bytes
 admitted-outcome a v e bytes =
-    let first = opened sha256 a in
-    admitted-verdict a bytes {start = first} v refl (ap (λ (r : Reader). fed sha256 r bytes) (left_by first e)) refl
+    ap (λ (r : Reader). (ended (fed sha256 r bytes)).answer) (left_by (opened sha256 a) e) ∙ verdict-fed sha256 a (sym v) bytes

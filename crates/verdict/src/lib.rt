@@ -15,12 +15,7 @@ use params::Terms;
 pub fn whole(a: Terms, proof: &[u8]) -> Answer
     ensures { result ≡ judge.verdict sha256 a proof.now }
 {
-    if let Err(refusal) = params::admitted(a.params) {
-        return refusal.at(0);
-    }
-    let opened = reader::open(a);
-    let read = reader::piece(opened.state, proof);
-    reader::end(read.state).answer
+    in_pieces(a, proof, proof.len())
 }
 
 // The proof in pieces of `size` bytes, one byte at least.
