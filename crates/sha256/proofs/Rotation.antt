@@ -6,6 +6,7 @@ use native.Mathlib.Nat.{add-zero, mul-mod_left, mod-lt, lt_of_le_of_lt}
 use native.Mathlib.Omega.{arith}
 use lib.Bits.{bit_or, bit_xor, or_lt, or_shifted_r, xor_lt, xor_shr, xor_mod, xor_block}
 use lib.Pow.{pow_pos, pow-add, shr_le, shr_lt, shl-shr, shr-shr, split, high, low, mod-pow-add}
+use Rattle.std.specs.Int.{rotate_right, w32}
 use Rattle.sha256.specs.Words.{rotr}
 
 -- the rotation by n places as a sum, where k places are left
@@ -63,6 +64,14 @@ turn_turn p q r x =
 
     made : turn q (p + r) x ≡ (a * 2 ^ r + c) * 2 ^ p + b
     made = ap₂ (λ (i j : ℕ). a * i + j) (pow-add 2 p r) (sym (split (x / 2 ^ q) p)) ∙ regroup a b c (2 ^ p) (2 ^ r)
+
+-- std's rotation is the standard's
+pub rotate_is : (x n : ℕ) → 0 < n → n < 32 → rotate_right w32 x n ≡ rotr n x
+unfolding rotr
+rotate_is x n a b =
+    let same : n % 32 ≡ n = omega arith in
+    let left : (32 - n) % 32 ≡ 32 - n = omega arith in
+    rw (same, left)
 
 pub rotr_both : (p q r x : ℕ) → p + q + r ≡ 32 → x < 2 ^ 32 → rotr p (bit_xor x (rotr q x)) ≡ bit_xor (rotr p x) (rotr (p + q) x)
 rotr_both p q r x e h =

@@ -2,8 +2,8 @@
 // The hash value, of eight words, and the message schedule, sixteen words of it at a time, go in and come back by value.
 #![tactic(auto)]
 
-ghost use Rattle.std.specs.Prelude.{◌≡◌, ℕ, ◌+◌, ◌*◌, ◌/◌, ◌%◌, ◌^◌, ◌<◌, ◌≤◌, [], ◌∷◌, ◌++◌, length, slice_index};
-ghost use Rattle.sha256.specs.Words.{ch, maj, big_sigma0, big_sigma1, small_sigma0, small_sigma1};
+ghost use Rattle.std.specs.Prelude.{◌≡◌, ℕ, ◌+◌, ◌*◌, ◌/◌, ◌%◌, ◌^◌, ◌<◌, ◌≤◌, [], ◌∷◌, ◌++◌, length, slice_index, bit_xor};
+ghost use Rattle.sha256.specs.Words.{rotr, ch, maj, big_sigma0, big_sigma1, small_sigma0, small_sigma1};
 ghost use Rattle.sha256.specs.Constants.{round_constants};
 ghost use Rattle.sha256.specs.Sha256 as spec;
 ghost use Rattle.sha256.specs.Hash.{hashed};
@@ -51,12 +51,20 @@ fn majority(x: u32, y: u32, z: u32) -> u32
     y ^ ((x ^ y) & (y ^ z))
 }
 
-// The functions (4.4) to (4.7). Of two rotations of x, by p and by p + q, one is saved: x and its rotation by q are turned by p together. But
-// that takes longer from x to the value, and a round waits longest for the value of big_sigma1, which is left as it is defined.
+// Two rotations of x, by p and by p + q, of which one is saved: x and its rotation by q are turned by p together.
+fn turned_twice(x: u32, p: u32, q: u32) -> u32
+    requires { (0 < p) × (0 < q) × (p + q < 32) }
+    ensures { result ≡ bit_xor (rotr p x) (rotr (p + q) x) }
+{
+    (x ^ x.rotate_right(q)).rotate_right(p)
+}
+
+// The functions (4.4) to (4.7). A rotation saved makes it longer from x to the value, and a round waits longest for the value of big_sigma1,
+// which is left as it is defined.
 fn big_sigma0(x: u32) -> u32
     ensures { result ≡ big_sigma0 x }
 {
-    (x ^ x.rotate_right(11)).rotate_right(2) ^ x.rotate_right(22)
+    turned_twice(x, 2, 11) ^ x.rotate_right(22)
 }
 
 fn big_sigma1(x: u32) -> u32
@@ -65,16 +73,17 @@ fn big_sigma1(x: u32) -> u32
     x.rotate_right(6) ^ x.rotate_right(11) ^ x.rotate_right(25)
 }
 
+// Stays beside small_sigma1: each is one of the standard's functions, and one over its three numbers says no less at each of its calls.
 fn small_sigma0(x: u32) -> u32
     ensures { result ≡ small_sigma0 x }
 {
-    (x ^ x.rotate_right(11)).rotate_right(7) ^ (x >> 3)
+    turned_twice(x, 7, 11) ^ (x >> 3)
 }
 
 fn small_sigma1(x: u32) -> u32
     ensures { result ≡ small_sigma1 x }
 {
-    (x ^ x.rotate_right(2)).rotate_right(17) ^ (x >> 10)
+    turned_twice(x, 17, 2) ^ (x >> 10)
 }
 
 // Round t, 6.2.2 step 3, with its word of the schedule.
@@ -111,28 +120,28 @@ struct Later {
     words: [u32; 16],
 }
 
-// Eight rounds from round n, on the working variables and on the sixteen words of the schedule from word n. Beside each round stands a word that
+// Eight rounds from round t, on the working variables and on the sixteen words of the schedule from word t. Beside each round stands a word that
 // is needed two turns on: a round waits for the round before it, and the processor fills the wait with the word. Every place in the sixteen
 // words is a number here, so that no array is left in the compiled code.
-fn turn(s: [u32; 8], w: [u32; 16], n: usize) -> Later
-    requires { n ≤ 40 }
-    ensures { Turns n s w result.state result.words }
+fn turn(s: [u32; 8], w: [u32; 16], t: usize) -> Later
+    requires { t ≤ 40 }
+    ensures { Turns t s w result.state result.words }
 {
-    let s0 = round(s, n, w[0]);
+    let s0 = round(s, t, w[0]);
     let x0 = next_word(w[0], w[1], w[9], w[14]);
-    let s1 = round(s0, n + 1, w[1]);
+    let s1 = round(s0, t + 1, w[1]);
     let x1 = next_word(w[1], w[2], w[10], w[15]);
-    let s2 = round(s1, n + 2, w[2]);
+    let s2 = round(s1, t + 2, w[2]);
     let x2 = next_word(w[2], w[3], w[11], x0);
-    let s3 = round(s2, n + 3, w[3]);
+    let s3 = round(s2, t + 3, w[3]);
     let x3 = next_word(w[3], w[4], w[12], x1);
-    let s4 = round(s3, n + 4, w[4]);
+    let s4 = round(s3, t + 4, w[4]);
     let x4 = next_word(w[4], w[5], w[13], x2);
-    let s5 = round(s4, n + 5, w[5]);
+    let s5 = round(s4, t + 5, w[5]);
     let x5 = next_word(w[5], w[6], w[14], x3);
-    let s6 = round(s5, n + 6, w[6]);
+    let s6 = round(s5, t + 6, w[6]);
     let x6 = next_word(w[6], w[7], w[15], x4);
-    let s7 = round(s6, n + 7, w[7]);
+    let s7 = round(s6, t + 7, w[7]);
     let x7 = next_word(w[7], w[8], x0, x5);
     let words = [
         w[8], w[9], w[10], w[11], w[12], w[13], w[14], w[15], x0, x1, x2, x3, x4, x5, x6, x7,
