@@ -10,7 +10,7 @@ use lib.ListN.{length, get_or, length-append, get_or-append}
 use lib.Seq.{get_or_at, ext_get_or}
 use Rattle.sha256.specs.Words.{ch, maj, big_sigma0, big_sigma1, small_sigma0, small_sigma1}
 use Rattle.sha256.specs.Constants.{round_constants}
-use Rattle.sha256.specs.Private.{Extends, window, Turns, LastRounds}
+use Rattle.sha256.specs.Private.{Extends, window, Turns}
 use Rattle.sha256.specs.Sha256.{round, rounds, sum1, sum2, schedule, extend, next_word, add_words, compress, absorb, block}
 use Rattle.sha256.proofs.Build.{length-build, get_d_build, sixteen}
 
@@ -203,12 +203,6 @@ module _ (m : List ℕ) (size : length m ≡ 16) where
       let fits : i < 16 = omega (arith, size) in
       let place : 0 + i ≡ i = omega arith in
       sym (get_d_build (λ i. get_or (schedule m 48) (0 + i) 0) 16 i fits ∙ ap (λ (j : ℕ). get_or (schedule m 48) j 0) place ∙ word-stays 0 i (omega arith) (omega arith)))
-
--- all rounds on a block: turns to the 48th, then the last
-pub rounds-whole : (m h : List ℕ) (n : ℕ) {s w r : List ℕ} → n ≡ 48 → s ≡ rounds (schedule m 48) h n → w ≡ window (schedule m 48) n → LastRounds w s r
-    → r ≡ rounds (schedule m 48) h 64
-rounds-whole m h n full p e last =
-    last.follow (schedule m 48) h (e ∙ ap (window (schedule m 48)) full) (p ∙ ap (rounds (schedule m 48) h) full)
 
 -- one more block
 pub absorb-more : (s : List ℕ) (n : ℕ) {h b r : List ℕ} → h ≡ absorb s n → b ≡ block s n → r ≡ compress h b → r ≡ absorb s (n + 1)
