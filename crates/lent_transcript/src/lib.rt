@@ -23,6 +23,7 @@ pub fn absorb_layer(t: &mut Transcript, root: [u8; 32]) -> u32
 }
 
 // Absorbs the first count of the final coefficients in place.
+// Stays an array with a count: `lent_transcript::absorb_final` keeps its signature, and so does `finish`.
 pub fn absorb_final(t: &mut Transcript, coefficients: [u32; 64], count: usize)
     ensures { t.new.state ≡ spec.absorb_final sha256 t.old.state (take count coefficients) }
 {
@@ -49,6 +50,7 @@ pub fn layer(t: Transcript, root: [u8; 32]) -> Absorbed
     }
 }
 
+// Stays an array with a count, as `absorb_final`.
 pub fn finish(t: Transcript, coefficients: [u32; 64], count: usize) -> [u8; 32]
     ensures { result ≡ spec.absorb_final sha256 t.state (take count coefficients) }
 {
