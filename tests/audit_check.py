@@ -76,7 +76,7 @@ CASES = [
     ("a public trait with a function: Zero", (BUFFER, "    const ZERO: Self;\n", "    const ZERO: Self;\n\n    fn evil(self) -> u8\n        requires { ZERO ≡ ZERO };\n")),
     ("'spec' is a parameter, and a module", (BUFFER, "pub fn put<T: Copy>(buffer: &mut [T], at: usize,", "pub fn put<T: Copy>(buffer: &mut [T], spec: usize,")),
     ("'length' is lib.ListN's here and Rattle.std.specs.Prelude's elsewhere", ("crates/calls/specs/Judged.antt", ", length}", "}"), ("crates/calls/specs/Judged.antt", "\nuse ", "\nuse lib.ListN.{length}\nuse ")),
-    ("felt::from_gives: 'tolds' comes from nowhere", ("crates/felt/src/lib.rt", "answer ≡ told outcome", "answer ≡ tolds outcome")),
+    ("felt::From.from_gives: 'tolds' comes from nowhere", ("crates/felt/src/lib.rt", "answer ≡ told outcome", "answer ≡ tolds outcome")),
     ("the symbol '≡' is not the library's", ("crates/fold/src/lib.rt", EQUAL, ""), ("crates/fold/src/lib.rt", BEFORE, "ghost use Rattle.fold.specs.Fold.{◌≡◌};\n" + BEFORE)),
     ("'≡' comes from nowhere", ("crates/fold/src/lib.rt", EQUAL, "")),
     ("'◌≤◌' of the library is imported under another name, '◌≡◌'", (FIELD, EQUAL, "◌≤◌ as ◌≡◌, ")),

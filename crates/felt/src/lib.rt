@@ -41,7 +41,7 @@ pub fn subgroup_generator(t: usize) -> u32
 }
 
 impl From<Result<u32, Refusal>> for FieldAnswer {
-    ghost from_gives = { λ outcome answer. answer ≡ told outcome };
+    ghost from_gives = { λ outcome. λ answer. answer ≡ told outcome };
 
     fn from(outcome: Result<u32, Refusal>) -> FieldAnswer {
         match outcome {
@@ -134,7 +134,7 @@ impl Felt {
     pub fn negation(self) -> FieldAnswer
         ensures { result ≡ negation_answer self.value }
     {
-        FieldAnswer::from(self.checked().map(|a| field::neg(a)))
+        FieldAnswer::from(self.checked().map(field::neg))
     }
 
     pub fn power(self, e: u32) -> FieldAnswer
