@@ -1,8 +1,8 @@
 -- Laws on the tests of a state, over plain variables, so that a function's answer only cites them.
 -- Assumes nothing.
-use Prim.Native.Nat.{ℕ, ◌*◌, ◌<◌}
+use Prim.Native.Nat.{ℕ, ◌+◌, ◌*◌, ◌<◌}
 use native.Mathlib.Omega.{arith}
-use mathlib.Core.Path.{◌≡◌, refl, ap, ◌∙◌}
+use mathlib.Core.Path.{◌≡◌, refl, sym, ap, ◌∙◌}
 use mathlib.Core.List.{List}
 use lib.ListN.{length}
 use lib.Seq.{sets}
@@ -13,12 +13,15 @@ use lib.Dec.{ltb, leb}
 use borrow.Author.Tests.{leb-true, ltb-true}
 use Rattle.answer.specs.Table.{answered, closed}
 use Rattle.sha256.specs.Sha256.{sha256}
+use Rattle.params.specs.Parameters.{height}
+use Rattle.reader_model.specs.declared.Stage.{Stage}
+use Rattle.reader_model.specs.declared.Stage.TheVariants.{ParameterCount, Parameters, RootCount, Root, CoefficientCount, Coefficient, QueryCount, Value, Sibling, Tail, Stopped}
 use Rattle.reader_model.specs.declared.Core.{Core}
 use Rattle.reader_model.specs.declared.Reader.{Reader}
-use Rattle.reader_model.specs.State.{stopped, with_core}
-use Rattle.reader_model.specs.Items.{sane, after_item, advanced}
+use Rattle.reader_model.specs.State.{stopped, with_core, with_walk, moved_to}
+use Rattle.reader_model.specs.Items.{sane, at_height, climbed, after_sibling, after_item, advanced}
 use Rattle.reader_model.proofs.Choice.{taken, left}
-use Rattle.reader_items.specs.Private.{Sane}
+use Rattle.reader_items.specs.Private.{Sane, is_sibling, goes_on, risen}
 
 -- A conjunction that holds.
 pub and_fst : (a b : Bool) → (a && b) ≡ true → a ≡ true
@@ -56,6 +59,37 @@ advanced_sane r is e = e ∙ (ap (λ (k : Core). after_item sha256 k.stage k r.t
 pub advanced_not : {x : Core} (r : Reader) → sane r.core ≡ false → x ≡ stopped (answered closed 0) → with_core r x ≡ advanced sha256 r
 unfolding advanced
 advanced_not r bad e = ap (with_core r) e ∙ left _ bad
+
+-- A sibling that is not the last of its path.
+sibling_stage : (stage : Stage) → is_sibling stage ≡ true → stage ≡ Sibling
+sibling_stage ParameterCount e = absurd (false≢true e)
+sibling_stage Parameters e = absurd (false≢true e)
+sibling_stage RootCount e = absurd (false≢true e)
+sibling_stage Root e = absurd (false≢true e)
+sibling_stage CoefficientCount e = absurd (false≢true e)
+sibling_stage Coefficient e = absurd (false≢true e)
+sibling_stage QueryCount e = absurd (false≢true e)
+sibling_stage Value e = absurd (false≢true e)
+sibling_stage Sibling e = refl
+sibling_stage Tail e = absurd (false≢true e)
+sibling_stage Stopped e = absurd (false≢true e)
+
+pub goes_on_sane : (c : Core) → goes_on c ≡ true → Sane c
+goes_on_sane c e = sane_bounds c (and_fst (sane c) _ e)
+
+pub advanced_risen : {x : Core} (r : Reader) → goes_on r.core ≡ true → x ≡ risen r.core → with_core r x ≡ advanced sha256 r
+unfolding after_sibling
+advanced_risen r e risen-is =
+    let c = r.core in
+    let more = and_snd (sane c) _ e in
+    let told : c.stage ≡ Sibling = sibling_stage c.stage (and_fst (is_sibling c.stage) _ more) in
+    let test : ltb (c.cursor.height + 1) (height c.params c.cursor.layer) ≡ true = and_snd (is_sibling c.stage) _ more in
+    advanced_sane r (refl, and_fst (sane c) _ e)
+    (ap (with_core r)
+    (risen-is
+    ∙ (ap (λ (k : Stage). moved_to (at_height (with_walk c (climbed sha256 c)) (c.cursor.height + 1)) k) told
+    ∙ taken _ test))
+    ∙ ap (λ (k : Stage). after_item sha256 k c r.tables) (sym told))
 
 -- A root fits its layer's place.
 pub root_fits : (roots root : List ℕ) (layer : ℕ) → length roots ≡ 512 → length root ≡ 32 → layer < 16 → put roots (32 * layer) root ≡ sets roots (32 * layer) root

@@ -17,7 +17,7 @@ pub struct SaneCore {
 }
 
 #[tactic(auto, unfolding(reader_model::specs::Items::sane))]
-fn is_sane(c: Core) -> bool
+pub fn is_sane(c: Core) -> bool
     ensures { result ≡ sane c }
 {
     let cursor = c.cursor;

@@ -92,7 +92,11 @@ pub fn feed(
         c.fill += run.len();
         rest = after;
         if run.len() == room {
-            c = advance(c, roots, challenges, coefficients);
+            if reader_queries::goes_on(c) {
+                c = reader_queries::up(SaneCore { core: c });
+            } else {
+                c = advance(c, roots, challenges, coefficients);
+            }
         }
     }
     c

@@ -7,11 +7,12 @@ ghost use Rattle.merkle.specs.Merkle.{parent};
 ghost use Rattle.params.specs.Parameters.{leaf_count};
 ghost use Rattle.fri.specs.Judge.{value_at};
 ghost use Rattle.reader_model.specs.Items.{leaf_of, linked, rooted, finished, at_leaf, after_leaf, after_value, climbed, next_query, next_layer, after_path, after_sibling};
+ghost use Rattle.reader_items.specs.Private.{goes_on, risen};
 
 use answer::Refusal;
 use felt::Felt;
 use params::Params;
-use reader_items::sane::SaneCore;
+use reader_items::sane::{SaneCore, is_sane};
 use reader_items::sections::{at_layer, at_query};
 use reader_model::{CHALLENGES, COEFFICIENTS, Core, ROOTS, Stage, VALUES, Walk};
 
@@ -200,4 +201,24 @@ pub fn after_sibling(c: SaneCore, roots: &[u8; ROOTS], coefficients: &[u32; COEF
         top.core.walk = walk;
         after_path(top, roots, coefficients)
     }
+}
+
+// Whether the item of a sane state is a sibling, and not the last one of its path.
+pub fn goes_on(c: Core) -> bool
+    ensures { result ≡ goes_on c }
+{
+    let above = c.cursor.height as usize + 1;
+    let height = params::height(c.params, c.cursor.layer);
+    is_sane(c) & ((c.stage == Stage::Sibling) & (above < height))
+}
+
+// A sibling that is not the last of its path. Most items are, so this has its own way: only what changes is stored.
+pub fn up(c: SaneCore) -> Core
+    ensures { result ≡ risen c.core }
+{
+    let walk = climb(c.core);
+    let mut next = c.moved(c.core.stage);
+    next.walk = walk;
+    next.cursor.height += 1;
+    next
 }

@@ -4,10 +4,20 @@ use native.Mathlib.Omega.{arith}
 use borrow.Author.Tests.{eqb-true}
 use Rattle.sha256.specs.Sha256.{sha256}
 use Rattle.reader_model.proofs.Pieces.{fed-stopped, fed_all, fed-more, fed_last}
+use Rattle.reader_items.proofs.Laws.{goes_on_sane, advanced_risen}
 use Rattle.reader_pieces.proofs.feed.Goals as goal
 
-pub loop-rest-preserved-then-run-room : goal.loop-rest-preserved-then-run-room
-loop-rest-preserved-then-run-room c =
+pub invariant_of-up : goal.invariant_of-up
+invariant_of-up c = record { within = goes_on_sane _ (sym c.goes_on.ensures ∙ c.if-goes_on.true) }
+
+pub loop-rest-preserved-then-goes_on : goal.loop-rest-preserved-then-goes_on
+loop-rest-preserved-then-goes_on c =
+    c.loop-rest.invariant
+    ∙ fed_last sha256 _ _ _ c.split_at.ensures.by_index.0 c.gather.ensures (omega arith) (omega (arith, c.item_length-need.ensures))
+    (advanced_risen _ (sym c.goes_on.ensures ∙ c.if-goes_on.true) c.up-c.ensures)
+
+pub loop-rest-preserved-else-goes_on : goal.loop-rest-preserved-else-goes_on
+loop-rest-preserved-else-goes_on c =
     c.loop-rest.invariant
     ∙ fed_last sha256 _ _ _ c.split_at.ensures.by_index.0 c.gather.ensures (omega arith) (omega (arith, c.item_length-need.ensures)) c.advance-c.ensures
 
