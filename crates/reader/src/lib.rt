@@ -16,6 +16,7 @@ use reader_model::{
 use transcript::Transcript;
 
 // A piece: its answer, and the small part of the state after it; the tables are lent and changed in place.
+// Stays three arrays (C interface; what may not change: its signature).
 #[tactic(auto, unfolding(reader_model::specs::Model::pieced))]
 pub fn piece_in_place(
     core: Core,

@@ -1,6 +1,6 @@
 -- Laws on byte strings that are compared, and on the value that an index names.
 -- Assumes nothing.
-use Prim.Native.Nat.{ℕ, ◌+◌, ◌/◌, ◌≤◌, ◌<◌}
+use Prim.Native.Nat.{ℕ, ◌/◌, ◌≤◌, ◌<◌}
 use native.Mathlib.Omega.{arith}
 use mathlib.Core.Path.{◌≡◌, refl, sym, ◌∙◌, ap}
 use mathlib.Core.Bool.{Bool, ◌&&◌}
@@ -56,10 +56,3 @@ first_of values = get_or-take 2 values 0 0 (omega arith)
 
 pub second_of : (values : List ℕ) → get_or (take 2 values) 1 0 ≡ get_or values 1 0
 second_of values = get_or-take 2 values 1 0 (omega arith)
-
--- A test against a number that is told by another name.
-pub less_as : {a b d : ℕ} → a < b → b ≡ d → a < d
-less_as h e = omega arith
-
-pub not_less_as : {a b d : ℕ} → b ≤ a → b ≡ d → d ≤ a
-not_less_as h e = omega arith

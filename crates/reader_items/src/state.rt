@@ -12,16 +12,12 @@ use reader_model::{Core, Cursor, Reader, Stage, Tables, Walk};
 pub fn item_length(stage: Stage) -> usize
     ensures { result ≡ item_length stage }
 {
+    // Stays a match (no plainer: the lengths are the format's, so no derive gives them).
     match stage {
-        Stage::ParameterCount => 2,
+        Stage::ParameterCount | Stage::RootCount | Stage::CoefficientCount | Stage::QueryCount => 2,
         Stage::Parameters => params::HEADER_SIZE,
-        Stage::RootCount => 2,
-        Stage::Root => 32,
-        Stage::CoefficientCount => 2,
-        Stage::Coefficient => 4,
-        Stage::QueryCount => 2,
-        Stage::Value => 4,
-        Stage::Sibling => 32,
+        Stage::Coefficient | Stage::Value => 4,
+        Stage::Root | Stage::Sibling => 32,
         Stage::Tail => 1,
         Stage::Stopped => 0,
     }
@@ -66,6 +62,7 @@ pub fn closed_state() -> Reader
 }
 
 // The answer of a reader that is not stopped, of its item's start and fill.
+// Stays a number (no plainer: an open reader's, 0 or 1, is no refusal).
 #[tactic(auto, unfolding(reader_model::specs::Model::open_answer))]
 pub fn open_answer(number: u8, start: u32, fill: usize) -> Answer
     ensures { result ≡ open_answer number start fill }
@@ -79,6 +76,7 @@ pub fn open_answer(number: u8, start: u32, fill: usize) -> Answer
 }
 
 // What a byte of a file can get.
+// Stays a number (C interface: it is what a caller's memory holds, whatever that is).
 fn is_fault(number: u8) -> bool
     ensures { result ≡ is_fault number }
 {
@@ -104,6 +102,7 @@ fn tell(kept: Answer) -> Answer
 }
 
 // The answer of a reader in this state, where an open one answers with this number.
+// Stays a number, as in `open_answer` (no plainer).
 #[tactic(auto, unfolding(reader_model::specs::Model::answer_of))]
 pub fn answer_of(c: Core, number: u8) -> Answer
     ensures { result ≡ answer_of c number }

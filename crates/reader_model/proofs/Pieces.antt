@@ -1,53 +1,21 @@
 -- Laws on the state after several bytes: a run of bytes within one item, a stopped reader, and the loop over a piece.
 -- Assumes nothing.
-use Prim.Native.Nat.{ℕ, suc, ◌+◌, ◌-◌, ◌≤◌, ◌<◌}
+use Prim.Native.Nat.{ℕ, suc, ◌+◌, ◌≤◌, ◌<◌}
 use native.Mathlib.Omega.{arith}
 use native.Mathlib.Numerals.{add-one}
 use mathlib.Core.Path.{◌≡◌, refl, sym, ◌∙◌, ap}
-use mathlib.Core.Bool.{Bool, true, false}
+use mathlib.Core.Bool.{true, false}
 use mathlib.Core.List.{List, [], ◌∷◌, ◌++◌, foldl, foldl-append}
-use lib.ListN.{length, take, get_or, set}
-use lib.Seq.{sets, take-length}
-use lib.Dec.{lit≤, ltb}
-use borrow.Author.Tests.{lt-ltb, le-ltb, ltb-true, ltb-false}
+use lib.ListN.{length, set}
+use lib.Seq.{sets}
+use borrow.Author.Tests.{lt-ltb, le-ltb}
 use Rattle.message.specs.Message.{Digest}
 use Rattle.reader_model.specs.declared.Stage.{Stage}
-use Rattle.reader_model.specs.declared.Stage.TheVariants.{ParameterCount, Parameters, RootCount, Root, CoefficientCount, Coefficient, QueryCount, Value, Sibling, Tail, Stopped}
 use Rattle.reader_model.specs.declared.Reader.{Reader}
 use Rattle.reader_model.specs.State.{item_length, with_core, with_item}
 use Rattle.reader_model.specs.Items.{advanced}
-use Rattle.answer.specs.declared.Answer.{Answer}
-use Rattle.answer.specs.Table.{open_so_far}
-use Rattle.reader_model.specs.declared.Reply.{Reply}
-use Rattle.reader_model.specs.Model.{stored, step, fed, answer_of, pieced, ends_inside, filled_item}
+use Rattle.reader_model.specs.Model.{stored, step, fed, ends_inside, filled_item}
 use Rattle.reader_model.proofs.Choice.{taken, left}
-
--- No item is longer than the buffer.
-pub item-fits : (stage : Stage) → item_length stage ≤ 32
-item-fits ParameterCount = lit≤ tt
-item-fits Parameters = lit≤ tt
-item-fits RootCount = lit≤ tt
-item-fits Root = lit≤ tt
-item-fits CoefficientCount = lit≤ tt
-item-fits Coefficient = lit≤ tt
-item-fits QueryCount = lit≤ tt
-item-fits Value = lit≤ tt
-item-fits Sibling = lit≤ tt
-item-fits Tail = lit≤ tt
-item-fits Stopped = lit≤ tt
-
--- The reply to a piece: the state after its bytes, and that state's answer.
-abbrev reply : Answer → Reader → Reply
-reply a r = record { answer = a; state = r }
-
-pub answers : (hash : List ℕ → Digest) (s : Reader) (bytes : List ℕ) {r : Reader} {a : Answer} → r ≡ fed hash s bytes → a ≡ answer_of r.core open_so_far → reply a r ≡ pieced hash s bytes
-unfolding pieced
-answers hash s bytes {r} after told = rw (told, after) refl
-
--- A run of one byte.
-pub gathered_one : (item : List ℕ) (at : ℕ) (bytes : List ℕ) (n : ℕ) → n ≡ 1 → n ≤ length bytes → set item at (get_or bytes 0 0) ≡ sets item at (take n bytes)
-gathered_one item at [] n one some = absurd (omega arith)
-gathered_one item at (b ∷ bytes) n one some = rw one
 
 -- A piece that ends inside the item, and one that does not.
 pub filled_inside : (stage : Stage) (fill : ℕ) (item bytes : List ℕ) → ends_inside stage fill bytes ≡ true → sets item fill bytes ≡ filled_item stage fill item bytes
@@ -57,21 +25,6 @@ filled_inside stage fill item bytes inside = taken _ inside
 pub filled_not : (stage : Stage) (fill : ℕ) (item bytes : List ℕ) → ends_inside stage fill bytes ≡ false → item ≡ filled_item stage fill item bytes
 unfolding filled_item
 filled_not stage fill item bytes outside = left _ outside
-
-pub gathered_inside : (stage : Stage) (fill : ℕ) (item bytes : List ℕ) {stores : List ℕ} → ends_inside stage fill bytes ≡ true
-    → stores ≡ sets item fill (take (length bytes) bytes) → stores ≡ filled_item stage fill item bytes
-gathered_inside stage fill item bytes inside e = e ∙ (ap (sets item fill) (take-length bytes) ∙ filled_inside stage fill item bytes inside)
-
--- Whether n bytes end inside an item, told without a sum that could be too large.
-pub ends_inside_test : (fill n need : ℕ) → n < need → ltb fill (need - n) ≡ ltb (fill + n) need
-ends_inside_test fill n need h = by (ltb fill (need - n)) refl
-  where
-    by : (t : Bool) → ltb fill (need - n) ≡ t → ltb fill (need - n) ≡ ltb (fill + n) need
-    by true e = e ∙ sym (lt-ltb (fill + n) need (omega (arith, ltb-true fill (need - n) e)))
-    by false e = e ∙ sym (le-ltb (fill + n) need (omega (arith, ltb-false fill (need - n) e)))
-
-pub too_long_test : (fill n need : ℕ) → need ≤ n → false ≡ ltb (fill + n) need
-too_long_test fill n need h = sym (le-ltb (fill + n) need (omega arith))
 
 -- The state with another buffer and fill, and with a run of bytes of the current item.
 abbrev pub filled : Reader → List ℕ → ℕ → Reader

@@ -1,5 +1,5 @@
-// The reader's state. The crate has no functions: its definitions are the model of the reader, its theorem the claim about the model. The code that
-// equals the model is in the crate above. Structs with C's layout are parts of the state that callers in C and Rust hold.
+// The reader's state. The crate has no functions of its own: its definitions are the model of the reader, its theorem the claim about the model. The
+// code that equals the model is in the crates above. Structs with C's layout are parts of the state that callers in C and Rust hold.
 #![tactic(auto)]
 
 use answer::Answer;
@@ -56,6 +56,7 @@ pub struct Walk {
 }
 
 // What changes from item to item. The answer is that of a stopped reader.
+// Stays an answer beside the stage, and an item beside its fill (C interface: they are what a caller's memory holds).
 #[derive(Clone, Copy)]
 pub struct Core {
     pub stage: Stage,
@@ -85,6 +86,7 @@ pub struct Reader {
 }
 
 // What a call gives: its answer, and the state that it leaves.
+// Stays (what may not change: `pieced` and `ended` of the model give a state beside a refusal too).
 #[derive(Clone, Copy)]
 pub struct Reply {
     pub answer: Answer,
@@ -92,6 +94,7 @@ pub struct Reply {
 }
 
 // What a call on a state whose tables are lent gives: its answer, and the small part that it leaves.
+// Stays (what may not change: the contract of `reader::piece_in_place` names the fields).
 #[derive(Clone, Copy)]
 pub struct Progress {
     pub answer: Answer,

