@@ -19,6 +19,7 @@ use params::{Params, Terms};
 use reader_model::{CHALLENGES, COEFFICIENTS, ROOTS};
 
 // The verdict on a whole proof.
+// Stays: the C interface; `test_exports` has this call, the look-up and the writer under names of its own, in a library of its own.
 #[unsafe(no_mangle)]
 pub extern "C" fn phieulakhon_verdict(p: Params, context: &[u8; 32], proof: &[u8]) -> Answer
     ensures { result ≡ judge.verdict sha256 (terms_of p context.now) proof.now }
@@ -75,6 +76,7 @@ pub extern "C" fn phieulakhon_open(
 }
 
 // A piece, of any number of bytes.
+// Stays: the C interface; the nine arrays, and the bytes between them.
 #[unsafe(no_mangle)]
 pub extern "C" fn phieulakhon_piece(
     u8s: &mut [u8; U8S],
@@ -133,6 +135,7 @@ pub extern "C" fn phieulakhon_end(
 }
 
 // Where the opening of a query in a layer stands in a proof of that length.
+// Stays: the C interface; a twin of `test_look_up`, and its four numbers travel apart.
 #[unsafe(no_mangle)]
 pub extern "C" fn phieulakhon_look_up(p: Params, length: usize, query: usize, layer: usize) -> Span
     ensures { result ≡ look_up_span p length query layer }
@@ -141,6 +144,7 @@ pub extern "C" fn phieulakhon_look_up(p: Params, length: usize, query: usize, la
 }
 
 // Writes the proof of a polynomial to the front of the output, worked out in the lent numbers and bytes.
+// Stays: the C interface; a twin of `test_write`, and its buffers travel apart.
 #[unsafe(no_mangle)]
 pub extern "C" fn phieulakhon_write(
     p: Params,

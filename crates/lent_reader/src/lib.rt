@@ -23,6 +23,7 @@ pub const U32S: usize = 6 + reader_model::VALUES;
 pub const SIZES: usize = 2;
 
 // Leaves a reply's state in the arrays, whatever they held, and gives its answer.
+// Stays: the C interface; the nine arrays travel apart, as C lends them, in every function of this file.
 fn hand_over(
     reply: Reply,
     u8s: &mut [u8; U8S],
@@ -102,6 +103,7 @@ pub fn read(
 }
 
 // A piece, of any number of bytes. What a short piece touches comes first, so that all of it goes in registers.
+// Stays: the C interface, and the speed of pieces of one byte; a struct of the nine would lie in memory.
 pub fn piece(
     u8s: &mut [u8; U8S],
     u32s: &mut [u32; U32S],

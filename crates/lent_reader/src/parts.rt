@@ -17,6 +17,7 @@ fn number_of(stage: Stage) -> u8
 }
 
 // Every number is a stage: one that names none is a stopped reader's.
+// Stays: no plainer; `From<u8>` would stand in `reader_model`, which has no functions, away from the arrays whose numbers these are.
 #[tactic(auto, unfolding(crate::specs::Held::stage_of))]
 fn stage_of(number: u8) -> Stage
     ensures { result ≡ stage_of number }
@@ -37,6 +38,7 @@ fn stage_of(number: u8) -> Stage
 }
 
 // What a piece that ends inside the current item needs to know.
+// Stays: the C interface; the fill is a number that the caller holds apart from the item.
 #[derive(Clone, Copy)]
 pub struct Front {
     pub stage: Stage,
@@ -55,6 +57,8 @@ pub fn front_of(u8s: [u8; U8S], u32s: [u32; U32S], sizes: [usize; SIZES]) -> Fro
     }
 }
 
+// The small part, out of the arrays.
+// Stays: no plainer; `From` would need a struct of the six arrays, which C lends apart, put together and taken apart at each call. So also `keep`.
 pub fn core_of(
     u8s: [u8; U8S],
     u32s: [u32; U32S],

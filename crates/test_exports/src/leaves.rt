@@ -19,6 +19,7 @@ pub extern "C" fn test_hash(message: &[u8], out: &mut [u8; 32]) -> Answer
     answer
 }
 
+// Stays: the C interface; one name for each operation, here and below.
 #[unsafe(no_mangle)]
 pub extern "C" fn test_sum(a: u32, b: u32) -> FieldAnswer
     ensures { result ≡ sum_answer a b }

@@ -112,6 +112,7 @@ pub extern "C" fn test_challenge(state: &[u8; 32]) -> u32
     Transcript { state: *state }.challenge()
 }
 
+// Stays: the C interface; an array with a count.
 #[unsafe(no_mangle)]
 pub extern "C" fn test_absorb_final(
     state: &[u8; 32],
@@ -149,6 +150,7 @@ pub extern "C" fn test_next(x: u32, beta: u32, a: u32, c: u32) -> u32
     fold::next(x, beta, a, c)
 }
 
+// Stays: the C interface; an array with a count.
 #[unsafe(no_mangle)]
 pub extern "C" fn test_eval(coefficients: &[u32; 64], count: usize, x: u32) -> u32
     ensures { result ≡ poly.eval (take count coefficients.now) x }
