@@ -43,6 +43,7 @@ IF_OK = ("Rattle.std.specs.Prelude", "IfOk")
 BLOCK = re.compile(r"^(?:pub )?(trait|impl) (\w+)[^{}\n]*\{\n(.*?)^\}", re.M | re.S)  # a trait or an impl, with what stands in it
 GHOST_MEMBER = re.compile(r"^    ghost (\w+)(:| =) \{ ([^{}\n]*) \};$", re.M)  # of a trait, what each impl says of its type; of an impl, what it says
 GHOST_FIELD = re.compile(r"^    (?:pub )?ghost (\w+): \{ ([^{}\n]*) \},$", re.M)  # a fact that holds of every value of a struct
+GHOST_MODEL = re.compile(r"^    ghost (?:Value|view|invariant) = \{ [^{}\n]* \};$", re.M)  # what contracts see of a struct, in a module of which no public contract speaks
 OUTSIDE = set()  # public calls whose result no contract can pin: none
 BY_POWERS_OF_TWO = ["field", "felt", "fold"]  # their code, and what it calls, divides and takes remainders by nothing else (request 2026-03)
 WRAPPING = re.compile(r"wrapping_(add|sub)_u(8|16|32|64)")  # what that code may call of std::num
@@ -199,7 +200,7 @@ def check_forms():
         for path in (ROOT / "crates" / crate / "src").rglob("*"):
             if path.is_file() and path not in [p for p, _, _ in read]:
                 fault(path.relative_to(ROOT), "a source file that the audit does not read")
-        for path, module, _ in read:
+        for path, module, public in read:
             where = path.relative_to(ROOT)
             text = bare(path.read_text())
             words = [t for t, _ in tokens(text)]
@@ -210,6 +211,8 @@ def check_forms():
                 fault(where, "a module that the audit does not read")
             if words.count("ghost") != len(re.findall(r"^ghost use [^\n]*;$", text, re.M)) + len(GHOST_FIELD.findall(text)) + sum(len(GHOST_MEMBER.findall(body)) for _, _, body in BLOCK.findall(text)):
                 fault(where, "an import that the audit cannot read, or a ghost member")
+            if public and GHOST_MODEL.search(text):
+                fault(where, "a model of a struct where public contracts may speak of it")
             for name, body in re.findall(r"^pub trait (\w+)[^{}\n]*\{\n(.*?)^\}", text, re.M | re.S):
                 if "fn" in [t for t, _ in tokens(body)]:
                     fault(where, f"a public trait with a function: {name}")
