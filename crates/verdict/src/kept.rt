@@ -6,7 +6,7 @@ ghost use Rattle.answer.specs.Refusals.{number_of};
 ghost use Rattle.fri.specs.Judge as judge;
 ghost use Rattle.reader_model.specs.Model.{fed, ended};
 ghost use Rattle.reader_model.specs.declared.Reader.{Reader};
-ghost use Rattle.lent_reader.specs.Held.{held, reader_of, zeros};
+ghost use Rattle.lent_reader.specs.Held.{held, reader_of};
 
 use answer::{Answer, Refusal};
 use lent_reader::{SIZES, U8S, U32S};
@@ -15,7 +15,7 @@ use reader_model::{CHALLENGES, COEFFICIENTS, ROOTS};
 use std::marker::Model;
 
 // The nine arrays that the calls are lent. Contracts see the state that they stand for.
-#[derive(Drop)]
+#[derive(Default, Drop)]
 pub struct Kept {
     u8s: [u8; U8S],
     u32s: [u32; U32S],
@@ -35,23 +35,6 @@ impl Model for Kept {
 }
 
 impl Kept {
-    // Memory of zeros: a closed reader.
-    pub fn zeros() -> Kept
-        ensures { result ≡ reader_of zeros }
-    {
-        Kept {
-            u8s: [0; U8S],
-            u32s: [0; U32S],
-            sizes: [0; SIZES],
-            item: [0; 32],
-            node: [0; 32],
-            transcript: [0; 32],
-            roots: [0; ROOTS],
-            challenges: [0; CHALLENGES],
-            coefficients: [0; COEFFICIENTS],
-        }
-    }
-
     // What the reader gives at its end is the verdict on what it was fed; a refusal is the verdict on any bytes.
     pub fn open(&mut self, a: Terms) -> Result<(), Refusal>
         ensures { MatchResult result (λ _. (bytes : List ℕ) → (ended (fed sha256 self.new bytes)).answer ≡ judge.verdict sha256 a bytes) (λ refusal. (bytes : List ℕ) → answered (number_of refusal) 0 ≡ judge.verdict sha256 a bytes) }

@@ -22,7 +22,7 @@ pub fn whole(a: Terms, proof: &[u8]) -> Answer
 pub fn in_pieces(a: Terms, proof: &[u8], size: usize) -> Answer
     ensures { result ≡ judge.verdict sha256 a proof.now }
 {
-    let mut reader = Kept::zeros();
+    let mut reader = Kept::default();
     if let Err(refusal) = reader.open(a) {
         return refusal.at(0);
     }
