@@ -14,7 +14,7 @@ use params::Terms;
 use reader_model::{CHALLENGES, COEFFICIENTS, ROOTS};
 use std::marker::Model;
 
-// The nine arrays that the calls are lent. Contracts see the state that they stand for.
+// The nine arrays that the calls are lent; by default zeros, a closed reader. Contracts see the state that they stand for.
 #[derive(Default, Drop)]
 pub struct Kept {
     u8s: [u8; U8S],
