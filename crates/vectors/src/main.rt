@@ -9,45 +9,16 @@ ghost use Rattle.vectors.specs.Lines.{digest_line, hashed_line, TellsMessage, Te
 ghost use Rattle.vectors.specs.Monte as spec;
 
 use sha256::Hashed;
-use std::io::{ErrorKind, Read, Write};
+use std::io::{Read, Write};
 use std::{fs, io};
 
 // What stands for a length after the last message.
-const END: usize = 65535;
+const END: u16 = u16::MAX;
 
 // How many digests the Monte test makes for a checkpoint.
 const TURNS: usize = 1000;
 
 const CHECKPOINTS: usize = 100;
-
-fn wide(x: u8) -> u64
-    ensures { (result ≡ x) × (result < 256) }
-{
-    x as u64
-}
-
-// The number in 2 bytes.
-fn length_of(b: &[u8; 2]) -> usize
-    ensures { (result ≡ get_or b.now 0 0 + 256 * get_or b.now 1 0) × (result < 65536) }
-{
-    (wide(b[0]) + 256 * wide(b[1])) as usize
-}
-
-// Reads until the buffer is full; false where the file ends before.
-fn read_full<R: Read>(input: &mut R, buf: &mut [u8]) -> io::Result<bool>
-    ensures { IfOk result (λ full. IsTrue full → Consumes (R.remaining input.old) (R.remaining input.new) buf.new) }
-{
-    match input.read_exact(buf) {
-        Ok(()) => Ok(true),
-        Err(e) => {
-            if e.kind() == ErrorKind::UnexpectedEof {
-                Ok(false)
-            } else {
-                Err(e)
-            }
-        }
-    }
-}
 
 // A digest's line.
 fn print_digest<W: Write>(out: &mut W, digest: [u8; 32]) -> io::Result<()>
@@ -63,12 +34,10 @@ fn print_digest<W: Write>(out: &mut W, digest: [u8; 32]) -> io::Result<()>
 fn print_hashed<W: Write>(out: &mut W, h: Hashed) -> io::Result<()>
     ensures { OnOk result (Appends (W.contents out.old) (W.contents out.new) (hashed_line h)) }
 {
-    let number = h.answer.number;
-    if number != answer::OPEN {
-        return writeln!(out, "refused {number}");
+    match h.answer.number {
+        answer::OPEN => print_digest(out, h.digest),
+        number => writeln!(out, "refused {number}"),
     }
-    let digest = h.digest;
-    print_digest(out, digest)
 }
 
 // The next message's line; false where the messages, or the file, end. Every length in 2 bytes fits the buffer, so that it is the hash that
@@ -76,77 +45,41 @@ fn print_hashed<W: Write>(out: &mut W, h: Hashed) -> io::Result<()>
 fn run_message<R: Read, W: Write>(input: &mut R, out: &mut W) -> io::Result<bool>
     ensures { IfOk result (λ more. IsTrue more → TellsMessage (R.remaining input.old) (R.remaining input.new) (W.contents out.old) (W.contents out.new)) }
 {
-    let mut size = [0u8; 2];
-    let has_size = read_full(input, &mut size)?;
-    if !has_size {
+    let Some(size) = streams::read_array(input)? else {
         return Ok(false);
-    }
-    let len = length_of(&size);
+    };
+    let len = u16::from_le_bytes(size);
     if len == END {
         return Ok(false);
     }
     let mut buf = [0u8; 65536];
-    let full = read_full(input, &mut buf[..len])?;
-    if !full {
+    let Some(message) = streams::read_front(input, &mut buf, len as usize)? else {
         return Ok(false);
-    }
-    let h = sha256::hash(&buf[..len]);
-    print_hashed(out, h)?;
+    };
+    print_hashed(out, sha256::hash(message))?;
     Ok(true)
-}
-
-// Byte i of three digests, end to end.
-fn joined_byte(a: [u8; 32], b: [u8; 32], c: [u8; 32], i: usize) -> u8
-    requires { i < 96 }
-    ensures { result ≡ get_or (a ++ (b ++ c)) i 0 }
-{
-    if i < 32 {
-        a[i]
-    } else if i < 64 {
-        b[i - 32]
-    } else {
-        c[i - 64]
-    }
-}
-
-// Three digests, end to end.
-fn joined(a: [u8; 32], b: [u8; 32], c: [u8; 32]) -> [u8; 96]
-    ensures { result ≡ a ++ (b ++ c) }
-{
-    let mut m = [0u8; 96];
-    for i in 0..96 {
-        m[i] = joined_byte(a, b, c, i);
-    }
-    m
 }
 
 // The digest after a thousand turns of the Monte test. The answer's number is not read: 96 bytes are never refused, as the proof shows.
 fn checkpoint(seed: [u8; 32]) -> [u8; 32]
     ensures { result ≡ spec.checkpoint seed }
 {
-    let mut a = seed;
-    let mut b = seed;
-    let mut c = seed;
+    let mut last = [seed; 3];
     for _ in 0..TURNS {
-        let m = joined(a, b, c);
-        let h = sha256::hash(&m);
-        let d = h.digest;
-        a = b;
-        b = c;
-        c = d;
+        let Hashed { digest, .. } = sha256::hash(last.as_flattened());
+        let [_, middle, newest] = last;
+        last = [middle, newest, digest];
     }
-    c
+    last[2]
 }
 
 // The checkpoints' lines, each checkpoint the seed of the next; false where the file ends in the first seed.
 fn run_monte<R: Read, W: Write>(input: &mut R, out: &mut W) -> io::Result<bool>
     ensures { IfOk result (λ whole. IsTrue whole → TellsMonte (R.remaining input.old) (R.remaining input.new) (W.contents out.old) (W.contents out.new)) }
 {
-    let mut seed = [0u8; 32];
-    let full = read_full(input, &mut seed)?;
-    if !full {
+    let Some(mut seed) = streams::read_array(input)? else {
         return Ok(false);
-    }
+    };
     for _ in 0..CHECKPOINTS {
         let next = checkpoint(seed);
         print_digest(out, next)?;

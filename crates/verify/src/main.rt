@@ -2,15 +2,14 @@
 // leaves the job without a line.
 #![tactic(auto)]
 
-ghost use Rattle.std.specs.Prelude.{◌≡◌, ◌↔◌, ◌⊎◌, IfOk, OnOk, IfSome, IsTrue};
+ghost use Rattle.std.specs.Prelude.{◌≡◌, ◌↔◌, ◌⊎◌, IfOk, IfSome, IsTrue};
 ghost use Rattle.std.specs.IoError.{error_kind};
 ghost use Rattle.std.specs.Io.{ReadsAtMost};
-ghost use Rattle.std.specs.Io.KnownBytes.{ReadConsumes, Appends};
+ghost use Rattle.std.specs.Io.KnownBytes.{ReadConsumes};
 ghost use Rattle.job.specs.Job.{job_answer};
-ghost use Rattle.line.specs.Line.{line_of};
 
 use answer::Answer;
-use std::io::{ErrorKind, Read, Write};
+use std::io::{ErrorKind, Read};
 use std::{io, thread};
 
 // How many bytes a read asks for.
@@ -27,8 +26,7 @@ const TRIES: u32 = 10000000;
 fn is_passing(error: &io::Error) -> bool
     ensures { IsTrue result ↔ ((error_kind error.now ≡ ErrorKind.Interrupted) ⊎ (error_kind error.now ≡ ErrorKind.WouldBlock)) }
 {
-    let kind = error.kind();
-    kind == ErrorKind::Interrupted || kind == ErrorKind::WouldBlock
+    matches!(error.kind(), ErrorKind::Interrupted | ErrorKind::WouldBlock)
 }
 
 // Reads until a read succeeds, or fails for good.
@@ -39,11 +37,8 @@ fn read_again<R: Read>(input: &mut R, buf: &mut [u8]) -> io::Result<usize>
     for _ in 0..TRIES {
         match input.read(buf) {
             Ok(n) => return Ok(n),
-            Err(e) => {
-                if !is_passing(&e) {
-                    return Err(e);
-                }
-            }
+            Err(e) if !is_passing(&e) => return Err(e),
+            Err(_) => {}
         }
         thread::yield_now();
     }
@@ -58,8 +53,7 @@ fn judge<R: Read>(input: &mut R) -> io::Result<Answer>
     for _ in 0..READS {
         let mut buf = [0u8; CHUNK];
         let n = read_again(input, &mut buf)?;
-        let next = job::feed(state, &buf[..n]);
-        state = next;
+        state = job::feed(state, &buf[..n]);
         if n == 0 || job::settled(state) {
             return Ok(job::finish(state));
         }
@@ -67,19 +61,9 @@ fn judge<R: Read>(input: &mut R) -> io::Result<Answer>
     Err(io::Error::other("no end"))
 }
 
-// Writes the line of an answer.
-fn write_line<W: Write>(out: &mut W, answer: Answer) -> io::Result<()>
-    ensures { OnOk result (Appends (W.contents out.old) (W.contents out.new) (line_of answer)) }
-{
-    let line = line::line(answer);
-    let bytes = line.bytes;
-    let length = line.length;
-    out.write_all(&bytes[..length])
-}
-
 fn main(rt: HostRuntime) -> io::Result<()> {
     match judge(&mut rt.stdin()) {
-        Ok(answer) => write_line(&mut rt.stdout(), answer),
+        Ok(answer) => streams::write_line(&mut rt.stdout(), answer),
         Err(e) => eprintln!(rt; "standard input: {e}"),
     }
 }

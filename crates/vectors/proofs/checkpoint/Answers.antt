@@ -7,7 +7,7 @@ pub loop-init : goal.loop-init
 loop-init c = last_none _
 
 pub loop-preserved : goal.loop-preserved
-loop-preserved c = last_more c.loop.invariant c.joined-m.ensures c.hash-h.ensures (search rules)
+loop-preserved c = last_more _ _ c.loop.invariant c.as_flattened.ensures.value c.hash.ensures (search rules)
 
 pub returns : goal.returns
-returns c = last_all c.loop.invariant (omega arith)
+returns c = last_all _ c.loop.invariant (omega arith)
