@@ -1,35 +1,15 @@
--- A job that was fed what a reader gave, and its answer.
+-- The answer to a job that was fed what a reader gave, where nothing is left and where the rest cannot change it.
 -- Assumes nothing.
-use Rattle.std.proofs.Common.{◌≡◌, ℕ, List, [], ◌∷◌, ◌++◌, true, None, Some, IfSome, sym, ap, ◌∙◌, append-nil, subst}
-use mathlib.Core.List.{foldl-append}
-use Rattle.std.specs.Io.KnownBytes.{Consumes, IsAtEnd}
-use Rattle.std.proofs.KnownBytes.{Consumes-nil, Consumes-trans}
+use Rattle.std.proofs.Common.{◌≡◌, ℕ, List, ◌++◌, true, None, Some, IfSome, sym, ap, ◌∙◌, append-nil}
+use Rattle.std.specs.Io.KnownBytes.{IsAtEnd}
 use Rattle.std.specs.declared.option.Option.{Option}
 use Rattle.answer.specs.declared.Answer.{Answer}
 use Rattle.message.specs.Bytes.{joined}
-use Rattle.message.proofs.Bytes.{joined_snoc}
 use Rattle.job.specs.declared.Job.{Job}
 use Rattle.job.specs.Job.{job_answer}
-use Rattle.job.specs.Chunks.{begun, fed_chunk, finished, is_settled, job_after}
+use Rattle.job.specs.Chunks.{finished, is_settled}
 use Rattle.job.proofs.Laws.{claimed}
-
--- From what a reader had first to what it has now, the job was fed all bytes that came.
-pub record Fed (first now : Option (List ℕ)) (state : Job) : Type 0 where
-  pub chunks : List (List ℕ)
-  pub reached : state ≡ job_after chunks
-  pub taken : Consumes first now (joined chunks)
-
-pub fed_none : (first : Option (List ℕ)) {state : Job} → state ≡ begun → Fed first first state
-unfolding joined
-fed_none first e = record { chunks = []; reached = e; taken = Consumes-nil first }
-
-pub fed_more : {first old now : Option (List ℕ)} {state next : Job} (chunk : List ℕ) → Fed first old state → Consumes old now chunk
-    → next ≡ fed_chunk state chunk → Fed first now next
-fed_more {first} {old} {now} {state} chunk h more e = record {
-  chunks = h.chunks ++ (chunk ∷ []);
-  reached = e ∙ ap (λ s. fed_chunk s chunk) h.reached ∙ sym (foldl-append fed_chunk begun h.chunks (chunk ∷ []));
-  taken = subst (Consumes first now) (sym (joined_snoc h.chunks chunk)) (Consumes-trans first old now (joined h.chunks) chunk h.taken more);
-}
+use Rattle.job.proofs.Fed.{Fed, fed_answer}
 
 -- Nothing is left.
 pub answer_at_end : {first now : Option (List ℕ)} {state : Job} {answer : Answer} → Fed first now state → IsAtEnd now → answer ≡ finished state
@@ -37,8 +17,7 @@ pub answer_at_end : {first now : Option (List ℕ)} {state : Job} {answer : Answ
 answer_at_end {first = None} h end e = tt
 answer_at_end {first = Some bytes} {now = None} h end e = absurd h.taken
 answer_at_end {first = Some bytes} {now = Some rest} h end e =
-    e ∙ ap finished h.reached ∙ claimed.answers h.chunks
-    ∙ ap job_answer (sym (h.taken ∙ ap (λ l. joined h.chunks ++ l) end ∙ append-nil (joined h.chunks)))
+    fed_answer h e ∙ ap job_answer (sym (h.taken ∙ ap (λ l. joined h.chunks ++ l) end ∙ append-nil (joined h.chunks)))
 
 -- Whatever is left.
 pub answer_settled : {first now : Option (List ℕ)} {state : Job} {answer : Answer} → Fed first now state → is_settled state ≡ true → answer ≡ finished state

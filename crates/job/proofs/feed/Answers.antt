@@ -1,10 +1,10 @@
--- `job::feed` meets its contract. The loop's invariant: the bytes before i were taken.
-use borrow.Author.Rules.{rules}
-use Rattle.job.proofs.Laws.{chunk_rest, chunk_done}
+-- `job::feed` meets its contract: what the head wants, and the rest.
+use Rattle.std.proofs.Common.{◌∙◌}
+use Rattle.job.proofs.Laws.{head_came, parts_fed}
 use Rattle.job.proofs.feed.Goals as goal
 
-pub returns-then-got-ge-HEAD_SIZE : goal.returns-then-got-ge-HEAD_SIZE
-returns-then-got-ge-HEAD_SIZE c = search (chunk_rest, rules)
+pub proof_bytes-requires : goal.proof_bytes-requires
+proof_bytes-requires c = head_came _ _ c.head_bytes.ensures (c.in-Some.ensures.cases.3 ∙ c.saturating_sub-missing.ensures)
 
-pub returns : goal.returns
-returns c = chunk_done _ _ _ c.loop-i-test.false c.loop-i.invariant.1
+pub returns-in-Some : goal.returns-in-Some
+returns-in-Some c = parts_fed _ _ _ c.in-Some.ensures.cases.1 c.in-Some.ensures.cases.2 c.head_bytes.ensures c.proof_bytes.ensures

@@ -1,14 +1,13 @@
 -- `job::finish` meets its contract.
-use mathlib.Core.Path.{refl}
-use borrow.Author.Rules.{rules}
+use Rattle.std.proofs.Common.{refl, ◌∙◌}
 use Rattle.job.proofs.Laws.{ends-short, ends-whole, ends-refused}
 use Rattle.job.proofs.finish.Goals as goal
 
-pub returns-then-got-lt-HEAD_SIZE : goal.returns-then-got-lt-HEAD_SIZE
-returns-then-got-lt-HEAD_SIZE c = ends-short _ (search rules) refl
+pub returns-then-state-lt-HEAD_SIZE : goal.returns-then-state-lt-HEAD_SIZE
+returns-then-state-lt-HEAD_SIZE c = c.at.ensures ∙ ends-short _ c.if-state-lt-HEAD_SIZE.true refl
 
-pub returns-then-number-eq-OPEN : goal.returns-then-number-eq-OPEN
-returns-then-number-eq-OPEN c = search (ends-whole, rules)
+pub returns-in-Ok : goal.returns-in-Ok
+returns-in-Ok c = ends-whole _ c.if-state-lt-HEAD_SIZE.false c.from_header.ensures c.in-Ok.ensures.number c.end.ensures
 
-pub returns : goal.returns
-returns c = search (ends-refused, rules)
+pub returns-in-Err : goal.returns-in-Err
+returns-in-Err c = c.at-in-Err.ensures ∙ ends-refused _ _ c.if-state-lt-HEAD_SIZE.false c.from_header.ensures c.in-Err.ensures.number

@@ -1,7 +1,6 @@
 -- `job::proof_bytes` meets its contract: with a whole head, every byte goes to the reader.
-use borrow.Author.Rules.{rules}
 use Rattle.job.proofs.Laws.{proof-fed}
 use Rattle.job.proofs.proof_bytes.Goals as goal
 
 pub returns : goal.returns
-returns c = proof-fed _ _ (search rules) c.piece-reply.ensures
+returns c = proof-fed _ _ c.requires c.piece.ensures

@@ -1,5 +1,5 @@
 -- `job::terms_in` meets its contract: the context is copied out of the head.
-use borrow.Author.Rules.{rules}
+use Rattle.std.proofs.Common.{rules}
 use Rattle.job.proofs.Laws.{terms_by}
 use Rattle.job.proofs.terms_in.Goals as goal
 

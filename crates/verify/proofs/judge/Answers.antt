@@ -1,6 +1,7 @@
 -- `verify::judge`: the job is fed what each read gave; where the input ends, or the job is settled, its answer is that of all the bytes.
 use Rattle.std.proofs.Common.{arith, sym, ◌∙◌}
-use Rattle.verify.proofs.Fed.{Fed, fed_none, fed_more, answer_at_end, answer_settled}
+use Rattle.job.proofs.Fed.{Fed, fed_none, fed_more}
+use Rattle.verify.proofs.Fed.{answer_at_end, answer_settled}
 use Rattle.verify.proofs.judge.Goals as goal
 use Rattle.verify.proofs.judge.Goals.{then-n-eq0-via-then-n-eq0, then-n-eq0-via-else-n-eq0+then-settled}
 

@@ -1,5 +1,5 @@
 -- The job was fed all bytes that came.
-use Rattle.verify.proofs.Fed.{Fed}
+use Rattle.job.proofs.Fed.{Fed}
 use Rattle.verify.proofs.judge.Given as goal
 
 abbrev pub invariant-loop : goal.invariant-loop
