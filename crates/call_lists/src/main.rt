@@ -3,8 +3,8 @@
 // Numbers stand low byte first. Output: for each script `open NUMBER PLACE`, then a line `NUMBER PLACE` for each call.
 #![tactic(auto)]
 
-ghost use Rattle.std.specs.Prelude.{◌≡◌, ◌+◌, ◌*◌, ◌<◌, IfOk, OnOk, IfSome, IsTrue, get_or};
-ghost use Rattle.std.specs.Io.KnownBytes.{Consumes, Appends};
+ghost use Rattle.std.specs.Prelude.{◌≡◌, ◌<◌, IfOk, OnOk, IfSome, IsTrue};
+ghost use Rattle.std.specs.Io.KnownBytes.{Appends};
 ghost use Rattle.reader_model.specs.Model.{ended};
 ghost use Rattle.call_lists.specs.Lists.{answer_line, RunsPiece, RunsCall, RunsCalls, RunsOpened, RunsScript};
 
@@ -12,45 +12,15 @@ use answer::Answer;
 use params::Terms;
 use reader_model::Reader;
 use std::io;
-use std::io::{ErrorKind, Read, Write};
+use std::io::{Read, Write};
 
 // What stands for a piece's length in an end call.
-const END: usize = 65535;
-
-fn wide(x: u8) -> u64
-    ensures { (result ≡ x) × (result < 256) }
-{
-    x as u64
-}
-
-// The number in 2 bytes.
-fn number_of(b: [u8; 2]) -> usize
-    ensures { (result ≡ get_or b 0 0 + 256 * get_or b 1 0) × (result < 65536) }
-{
-    (wide(b[0]) + 256 * wide(b[1])) as usize
-}
-
-// Reads until the buffer is full; false where the input ends before.
-fn read_full<R: Read>(input: &mut R, buf: &mut [u8]) -> io::Result<bool>
-    ensures { IfOk result (λ full. IsTrue full → Consumes (R.remaining input.old) (R.remaining input.new) buf.new) }
-{
-    match input.read_exact(buf) {
-        Ok(()) => Ok(true),
-        Err(e) => {
-            if e.kind() == ErrorKind::UnexpectedEof {
-                Ok(false)
-            } else {
-                Err(e)
-            }
-        }
-    }
-}
+const END: u16 = u16::MAX;
 
 fn print_answer<W: Write>(out: &mut W, a: Answer) -> io::Result<()>
     ensures { OnOk result (Appends (W.contents out.old) (W.contents out.new) (answer_line a)) }
 {
-    let number = a.number;
-    let place = a.place;
+    let Answer { number, place } = a;
     writeln!(out, "{number} {place}")
 }
 
@@ -75,11 +45,10 @@ fn run_piece<R: Read, W: Write>(
     ensures { IfOk result (λ left. IfSome left (RunsPiece (R.remaining input.old) (R.remaining input.new) (W.contents out.old) (W.contents out.new) state len)) }
 {
     let mut buf = [0u8; 65536];
-    let full = read_full(input, &mut buf[..len])?;
-    if !full {
+    let Some(bytes) = streams::read_front(input, &mut buf, len)? else {
         return Ok(None);
-    }
-    let reply = reader::piece(state, &buf[..len]);
+    };
+    let reply = reader::piece(state, bytes);
     print_answer(out, reply.answer)?;
     Ok(Some(reply.state))
 }
@@ -92,17 +61,15 @@ fn run_call<R: Read, W: Write>(
 ) -> io::Result<Option<Reader>>
     ensures { IfOk result (λ left. IfSome left (RunsCall (R.remaining input.old) (R.remaining input.new) (W.contents out.old) (W.contents out.new) state)) }
 {
-    let mut size = [0u8; 2];
-    let full = read_full(input, &mut size)?;
-    if !full {
+    let Some(size) = streams::read_array(input)? else {
         return Ok(None);
-    }
-    let len = number_of(size);
+    };
+    let len = u16::from_le_bytes(size);
     if len == END {
         let next = run_end(out, state)?;
         return Ok(Some(next));
     }
-    run_piece(input, out, state, len)
+    run_piece(input, out, state, len as usize)
 }
 
 // The calls of a script, each on the state that the call before it left; false where the input ends among them.
@@ -116,11 +83,10 @@ fn run_calls<R: Read, W: Write>(
 {
     let mut s = state;
     for _ in 0..count {
-        let left = run_call(input, out, s)?;
-        match left {
-            None => return Ok(false),
-            Some(next) => s = next,
-        }
+        let Some(next) = run_call(input, out, s)? else {
+            return Ok(false);
+        };
+        s = next;
     }
     Ok(true)
 }
@@ -144,23 +110,18 @@ fn run_opened<R: Read, W: Write>(
 fn run_script<R: Read, W: Write>(input: &mut R, out: &mut W) -> io::Result<bool>
     ensures { IfOk result (λ whole. IsTrue whole → RunsScript (R.remaining input.old) (R.remaining input.new) (W.contents out.old) (W.contents out.new)) }
 {
-    let mut p = [0u8; params::HEADER_SIZE];
-    let mut context = [0u8; 32];
-    let mut size = [0u8; 2];
-    let has_header = read_full(input, &mut p)?;
-    if !has_header {
+    let Some(header) = streams::read_array::<{ params::HEADER_SIZE }, R>(input)? else {
         return Ok(false);
-    }
-    let has_context = read_full(input, &mut context)?;
-    if !has_context {
+    };
+    let Some(context) = streams::read_array(input)? else {
         return Ok(false);
-    }
-    let has_size = read_full(input, &mut size)?;
-    if !has_size {
+    };
+    let Some(count) = streams::read_array(input)? else {
         return Ok(false);
-    }
-    let params = params::from_header(&p);
-    run_opened(input, out, Terms { params, context }, number_of(size))
+    };
+    let params = params::from_header(&header);
+    let count = u16::from_le_bytes(count) as usize;
+    run_opened(input, out, Terms { params, context }, count)
 }
 
 fn main(rt: HostRuntime) -> io::Result<()> {

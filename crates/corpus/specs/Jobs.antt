@@ -4,14 +4,8 @@ use Rattle.std.specs.declared.option.Option as rust
 use Rattle.std.specs.Io.KnownBytes.{Consumes, Appends}
 use Rattle.answer.specs.declared.Answer.{Answer}
 use Rattle.message.specs.Bytes.{num}
-use Rattle.job.specs.declared.Job.{Job}
 use Rattle.job.specs.Job.{job_answer}
-use Rattle.job.specs.Chunks.{fed_chunk}
 use Rattle.line.specs.Line.{line_of}
-
--- From what a reader had to what it has now it gave so many bytes, and the job was fed them.
-abbrev pub FeedsNext : rust.Option (List ℕ) → rust.Option (List ℕ) → Job → ℕ → Job → Type 0
-FeedsNext before after state count next = (bytes : List ℕ) × (length bytes ≡ count) × Consumes before after bytes × (next ≡ fed_chunk state bytes)
 
 -- From what a reader had to what it has now it gave a job of so many bytes, whose answer this is.
 abbrev pub TakesJob : rust.Option (List ℕ) → rust.Option (List ℕ) → ℕ → Answer → Type 0

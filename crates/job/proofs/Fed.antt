@@ -19,11 +19,11 @@ pub record Fed (first now : Option (List ℕ)) (state : Job) : Type 0 where
   pub reached : state ≡ job_after chunks
   pub taken : Consumes first now (joined chunks)
 
-pub fed_none : (first : Option (List ℕ)) {state : Job} → state ≡ begun → Fed first first state
+abbrev pub fed_none : (first : Option (List ℕ)) {state : Job} → state ≡ begun → Fed first first state
 unfolding joined
 fed_none first e = record { chunks = []; reached = e; taken = Consumes-nil first }
 
-pub fed_more : {first old now : Option (List ℕ)} {state next : Job} (chunk : List ℕ) → Fed first old state → Consumes old now chunk
+abbrev pub fed_more : {first old now : Option (List ℕ)} {state next : Job} (chunk : List ℕ) → Fed first old state → Consumes old now chunk
     → next ≡ fed_chunk state chunk → Fed first now next
 fed_more {first} {old} {now} {state} chunk h more e = record {
   chunks = h.chunks ++ (chunk ∷ []);

@@ -11,4 +11,5 @@ returns g c = fed_all c.loop-rest.invariant (omega arith) c.finish.ensures
 
 pub loop-rest-preserved : goal.loop-rest-preserved
 loop-rest-preserved g c =
-    fed_more _ _ _ _ _ _ _ _ c.loop-rest.invariant (rw c.in-Some.is at c.in_ok-fed.ensures) (search rules)
+    let (long, took) = rw c.in-Some.is at c.in_ok-bytes.ensures in
+    fed_more _ _ _ _ _ _ _ _ _ c.loop-rest.invariant long took c.feed-state.ensures (search rules)
