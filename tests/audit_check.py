@@ -63,7 +63,7 @@ CASES = [
     ("params::admitted: not an equation", (PARAMS, "λ v. v.params ≡ p", "λ v. Valid v.params"), (PARAMS, BEFORE, "ghost use Rattle.params.specs.Parameters.{Valid};\n" + BEFORE)),
     ("params::admitted: a result that may be refused", (PARAMS, "λ v. v.params ≡ p", "λ v. v.params ≡ p) × (result ≡ result")),
     ("params::ValidParams.valid: 'Valid' comes from nowhere", (PARAMS, "spec.Valid params", "Valid params")),
-    ("crates/verdict/src/kept.rt: an import that the audit cannot read, or a ghost member", ("crates/verdict/src/lib.rt", "mod kept;", "pub mod kept;")),
+    ("crates/verdict/src/kept.rt: a model of a struct where public contracts may speak of it", ("crates/verdict/src/lib.rt", "mod kept;", "pub mod kept;")),
     ("an import that the audit cannot read, or a ghost member", (PARAMS, "    pub ghost valid: { spec.Valid params },", "    pub ghost valid: {\n        spec.Valid params\n    },")),
     ("a second public struct Transcript", (FIELD, HEAD, "pub struct Transcript {}\n\n" + HEAD)),
     ("reader::piece_in_place: the contract does not pin what is left in roots", ("crates/reader/src/lib.rt", "replied result.answer result.core roots.new", "replied result.answer result.core challenges.new")),

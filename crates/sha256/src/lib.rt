@@ -2,7 +2,8 @@
 // The hash value, of eight words, and the message schedule, sixteen words of it at a time, go in and come back by value.
 #![tactic(auto)]
 
-ghost use Rattle.std.specs.Prelude.{◌≡◌, ℕ, ◌+◌, ◌*◌, ◌/◌, ◌%◌, ◌^◌, ◌<◌, ◌≤◌, [], ◌∷◌, ◌++◌, length, slice_index, bit_xor};
+ghost use Rattle.std.specs.Prelude.{◌≡◌, ℕ, ◌+◌, ◌*◌, ◌/◌, ◌%◌, ◌^◌, ◌<◌, ◌≤◌, [], ◌∷◌, ◌++◌, length, slice_index};
+ghost use Rattle.std.specs.Int.Bits.{bit_xor};
 ghost use Rattle.sha256.specs.Words.{rotr, ch, maj, big_sigma0, big_sigma1, small_sigma0, small_sigma1};
 ghost use Rattle.sha256.specs.Constants.{round_constants};
 ghost use Rattle.sha256.specs.Sha256 as spec;
