@@ -36,7 +36,7 @@ class Function:
         self.params = [" ".join(p.split()) for p in re.split(r",(?![^<(\[]*[>)\]])", text[at + 1 : end]) if p.strip()]
         self.requires = []
         while True:
-            c = re.compile(r"[^{};]*?" + CONTRACT.pattern).match(text, end + 1)
+            c = re.compile(r"(?:[^{};\[]|\[[^\]]*\])*?" + CONTRACT.pattern).match(text, end + 1)
             if not c:
                 break
             close = closing(text, c.end() - 1)
