@@ -63,17 +63,21 @@ pub fn from_header(bytes: &[u8]) -> Params
     Params { n, b, k, q }
 }
 
+fn in_range(low: u8, x: u8, high: u8) -> bool
+    ensures { result ≡ spec.in_range low x high }
+{
+    (low..=high).contains(&x)
+}
+
 #[tactic(auto, unfolding(crate::specs::Parameters::valid))]
 pub fn is_valid(p: Params) -> bool
     ensures { result ≡ spec.valid p }
 {
     let used = p.b as u32 + p.k as u32;
     let n = p.n as u32;
-    (2..=20).contains(&p.n)
-        && (1..=8).contains(&p.b)
-        && (1..=12).contains(&p.k)
-        && (1..=64).contains(&p.q)
-        && (used..=used + 6).contains(&n)
+    let fits = (used <= n) & (n <= used + 6);
+    in_range(2, p.n, 20)
+        & (in_range(1, p.b, 8) & (in_range(1, p.k, 12) & (in_range(1, p.q, 64) & fits)))
 }
 
 // A caller's parameters, where they are admitted.
