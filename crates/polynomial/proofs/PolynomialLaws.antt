@@ -6,7 +6,7 @@ use mathlib.Core.Path.{◌≡◌, refl, sym, ap, ap₂, ◌∙◌}
 use native.Mathlib.Nat.{add-mul, mul_assoc, one-mul}
 use native.Mathlib.Numerals.{add-one}
 use native.Mathlib.Omega.{arith}
-use borrow.Author.Tests.{eq-eqb, le-leb, ne_eqb}
+use borrow.Author.Tests.{eq-eqb, ne_eqb}
 use lib.ListN.{length, take, drop, get_or, set}
 use lib.Pow.{pow-add}
 use Rattle.std.proofs.lemmas.List.{take_more_set}
@@ -19,7 +19,7 @@ use Rattle.fold.specs.Poly.{eval, fold}
 use Rattle.fold.proofs.FoldCheck.{fold-length}
 use Rattle.message.proofs.Tabulate.{tabulate_snoc}
 use Rattle.message.specs.Lists.{tabulate}
-use Rattle.polynomial.specs.Polynomial.{layer_size, values, is_room, evaluated, folded_in_place}
+use Rattle.polynomial.specs.Polynomial.{layer_size, values, folded_in_place}
 
 -- A layer's size as code has it: at most 2^30 points.
 pub size_made : {r : ℕ} (n j : ℕ) → n ≤ 30 → r ≡ 2 ^ (n - j) % 2 ^ 64 → (r ≡ layer_size n j) × (r ≤ 1073741824)
@@ -47,30 +47,25 @@ point-next {x} {r} n j i h k e f =
     ∙ ap (mul_mod (pow_mod generator (2 ^ j))) (sym (pow_mod_add (subgroup_generator n) (i * 2 ^ j) (2 ^ j)) ∙ ap (pow_mod (subgroup_generator n)) more))
 
 -- The values at the first i points of a layer.
-pub first_values : ℕ → ℕ → ℕ → List ℕ → List ℕ
+unfoldable pub first_values : ℕ → ℕ → ℕ → List ℕ → List ℕ
 first_values n j i f = tabulate i (λ k. eval f (point n j k))
 
--- A loop that stores the values one by one behind the front of the room, which it reads: its start, a turn, its end.
-module _ (room : List ℕ) (n j c s : ℕ) where
-  pub values-start : [] ≡ first_values n j 0 (take c room)
-  unfolding first_values tabulate
-  values-start = refl
+-- A loop that stores the values one by one: a turn, and the end.
+pub values_turn : {x v : ℕ} (f made : List ℕ) (n j i : ℕ) → i < length made → x ≡ point n j i → v ≡ eval (take (length f) f) x
+    → take i made ≡ first_values n j i f → take (i + 1) (set made i v) ≡ first_values n j (i + 1) f
+unfolding first_values
+values_turn f made n j i l e q so_far =
+    take_more_set made i _ l
+    ∙ ap₂ (λ (y : List ℕ) (z : ℕ). y ++ (z ∷ [])) so_far (q ∙ ap₂ eval (take_all (length f) f (omega arith)) e)
+    ∙ rw add-one (sym (tabulate_snoc i _))
 
-  pub values_turn : {x v : ℕ} {front : List ℕ} (made : List ℕ) (i : ℕ) → c ≤ s → front ≡ take s room → i < length made → x ≡ point n j i → v ≡ eval (take c front) x
-      → take i made ≡ first_values n j i (take c room) → take (i + 1) (set made i v) ≡ first_values n j (i + 1) (take c room)
-  unfolding first_values
-  values_turn {x} {v} {front} made i h k l e f so_far =
-      let here : v ≡ eval (take c room) (point n j i) = f ∙ ap₂ eval (ap (take c) k ∙ take-take c s room h) e in
-      take_more_set made i v l ∙ ap₂ (λ (y : List ℕ) (z : ℕ). y ++ (z ∷ [])) so_far here ∙ rw add-one (sym (tabulate_snoc i _))
+pub values-end : (f made : List ℕ) (n j i : ℕ) → length made ≡ layer_size n j → i ≡ length made → take i made ≡ first_values n j i f → made ≡ values n j f
+unfolding first_values values
+values-end f made n j i l q all = sym (take_all i made (omega arith)) ∙ all ∙ ap (λ (k : ℕ). first_values n j k f) (q ∙ l)
 
-  pub values-end : {front : List ℕ} (made : List ℕ) (i : ℕ) → j ≤ n → n ≤ 30 → c ≤ s → s ≡ layer_size n j → length room ≡ 2 * s → front ≡ take s room
-      → length made ≡ s → i ≡ s → take i made ≡ first_values n j i (take c room) → front ++ made ≡ evaluated n j c room
-  unfolding first_values evaluated is_room values
-  values-end {front} made i a b h k z f l q all =
-      let fits : c ≤ layer_size n j = omega arith in
-      let whole : length room ≡ 2 * layer_size n j = omega arith in
-      ap₂ (λ (y z : List ℕ). y ++ z) f (sym (take_all i made (omega arith)) ∙ all)
-      ∙ rw (q, k, le-leb j n a, le-leb n 30 b, le-leb c (layer_size n j) fits, eq-eqb (length room) (2 * layer_size n j) whole)
+-- The front of the front half of a room.
+pub front_of_half : (room : List ℕ) (c s : ℕ) → c ≤ s → take c (take s room) ≡ take c room
+front_of_half room c s h = take-take c s room h
 
 -- The fold of the first 2·i coefficients has i, and two coefficients more append one.
 front_length : (β i : ℕ) (l : List ℕ) → 2 * i ≤ length l → length (fold β (take (2 * i) l)) ≡ i

@@ -4,29 +4,30 @@
 ghost use Rattle.std.specs.Prelude.{◌≡◌, ◌+◌, ◌*◌, ◌≤◌, length};
 ghost use Rattle.polynomial.specs.Polynomial as spec;
 
-// Point by point, each point the one before times the root.
-fn evaluate(room: &mut [u32], count: usize, size: usize, n: u8, layer: u8)
-    requires { ((layer ≤ n) × (n ≤ 30)) × ((count ≤ size) × ((size ≡ spec.layer_size n layer) × (length room.old ≡ 2 * size))) }
-    ensures { room.new ≡ spec.evaluated n layer count room.old }
+// A layer's values, point by point, each point the one before times the root.
+fn evaluate(polynomial: &[u32], n: u8, layer: u8, values: &mut [u32])
+    requires { ((layer ≤ n) × (n ≤ 30)) × (length values.old ≡ spec.layer_size n layer) }
+    ensures { values.new ≡ spec.values n layer polynomial.now }
 {
     let root = felt::subgroup_generator((n - layer) as usize);
     let mut x = domain::point(n, layer, 0);
-    let (polynomial, values) = room.split_at_mut(size);
     for value in values {
-        *value = fold::eval_lent(polynomial, count, x);
+        *value = fold::eval_lent(polynomial, polynomial.len(), x);
         x = field::mul(x, root);
     }
 }
 
 // The engine: the values of the first count numbers of a layer's room, into its second half.
-#[tactic(auto, using(crate::proofs::PolynomialLaws::size_made), unfolding(crate::specs::Polynomial::evaluated, crate::specs::Polynomial::is_room))]
+// Stays: a count beside the room, since what may not change is the signature of `values`.
+#[tactic(auto, using(crate::proofs::PolynomialLaws::size_made, crate::proofs::PolynomialLaws::front_of_half), unfolding(crate::specs::Polynomial::evaluated, crate::specs::Polynomial::is_room))]
 pub fn values(room: &mut [u32], count: usize, n: u8, layer: u8)
     ensures { room.new ≡ spec.evaluated n layer count room.old }
 {
     if layer <= n && n <= 30 {
         let size = binary::power_of_two(n - layer);
         if count <= size && room.len() == 2 * size {
-            evaluate(room, count, size, n, layer);
+            let (front, values) = room.split_at_mut(size);
+            evaluate(&front[..count], n, layer, values);
         }
     }
 }

@@ -2,13 +2,14 @@
 -- Assumes nothing.
 use Prim.Native.Nat.{ℕ, zero, suc, ◌+◌, ◌*◌, ◌^◌, ◌-◌, ◌/◌, ◌%◌, ◌≤◌, ◌<◌}
 use mathlib.Core.Bool.{true}
-use mathlib.Core.List.{List, [], ◌++◌, append_assoc, append-nil}
+use mathlib.Core.List.{List, [], ◌∷◌, ◌++◌, append_assoc, append-nil}
 use mathlib.Core.Path.{◌≡◌, refl, sym, ap, ap₂, ◌∙◌}
-use native.Mathlib.Nat.{one-le-pow, pow-suc}
+use native.Mathlib.Nat.{one-le-pow, pow-suc, zero-add}
 use native.Mathlib.Omega.{arith}
 use borrow.Author.Tests.{le-leb, eq-eqb}
 use lib.ListN.{length, take, drop, length-append, length-drop, take-append-drop}
-use lib.Seq.{sets, length-take-le, take-add, take_all, drop-append-add}
+use lib.Seq.{sets, sets-eq, length-sets, length-take-le, take-add, take-take, take_all, drop-drop, drop-append-add}
+use Rattle.std.proofs.lemmas.List.{drop-take, take_rest}
 use Rattle.message.specs.Bytes.{joined, part}
 use Rattle.message.specs.Message.{Digest}
 use Rattle.message.proofs.Bytes.{Sized, joined_length, joined_at}
@@ -39,6 +40,53 @@ row_fits from left d count n h e k = omega (arith, rw h at k, size_step d, size_
 
 pub rest_fits : (from left d count n : ℕ) → left ≡ suc d → count ≡ 2 ^ d → from + tree_size left ≡ n → from + 64 * count + tree_size d ≡ n
 rest_fits from left d count n h e k = omega (arith, rw h at k, size_step d)
+
+-- A row that is written behind the row below it.
+digests_front : (n : ℕ) (xs : List ℕ) → digests n (take (32 * n) xs) ≡ digests n xs
+unfolding digests
+digests_front zero xs = refl
+digests_front (suc n) xs =
+    let more : 32 * suc n ≡ 32 + 32 * n = omega arith in
+    rw more (ap₂ (λ (x : Digest) (y : List Digest). x ∷ y) (take-take 32 (32 + 32 * n) xs (omega arith)) (ap (digests n) (drop-take 32 (32 * n) xs) ∙ digests_front n (drop 32 xs)))
+
+laid_behind : (l vs : List ℕ) (k : ℕ) → k + length vs ≤ length l → take k l ++ sets (drop k l) 0 vs ≡ sets l k vs
+laid_behind l vs k h =
+    ap (λ (x : List ℕ). take k l ++ x)
+    (sets-eq vs (drop k l) 0 (omega (arith, length-drop k l))
+    ∙ ap (λ (n : ℕ). vs ++ drop n (drop k l)) (zero-add (length vs))
+    ∙ ap (λ (x : List ℕ). vs ++ x) (drop-drop (length vs) k l))
+    ∙ sym (append_assoc (take k l) vs (drop (k + length vs) l))
+    ∙ sym (sets-eq vs l k h)
+
+module _ {below : List ℕ} (space : List ℕ) (from count : ℕ) (fits : from + 96 * count ≤ length space) (front : below ≡ take (from + 64 * count) space) where
+  abbrev lower : List ℕ
+  lower = take (length below - from) (drop from below)
+
+  lower_is : lower ≡ take (32 * (2 * count)) (drop from space)
+  lower_is =
+      take_rest below from
+      ∙ ap (drop from) front
+      ∙ drop-take from (64 * count) space
+      ∙ ap (λ (k : ℕ). take k (drop from space)) (omega arith)
+
+  pub lower_length : length lower ≡ 64 * count
+  lower_length = ap length lower_is ∙ length-take-le (32 * (2 * count)) (drop from space) (omega (arith, length-drop from space)) ∙ omega arith
+
+  pub row_laid : {back after : List ℕ} → back ≡ drop (from + 64 * count) space → after ≡ sets back 0 (joined (above sha256 (digests (2 * (length lower / 64)) lower)))
+      → below ++ after ≡ sets space (from + 64 * count) (joined (above sha256 (digests (2 * count) (drop from space))))
+  row_laid {back} {after} behind e =
+      let half : length lower / 64 ≡ count = omega (arith, lower_length) in
+      let row : List Digest = digests (2 * count) (drop from space) in
+      let same : digests (2 * (length lower / 64)) lower ≡ row =
+      ap₂ (λ (k : ℕ) (x : List ℕ). digests (2 * k) x) half lower_is ∙ digests_front (2 * count) (drop from space) in
+      let size : length (joined (above sha256 row)) ≡ 32 * count =
+      joined_length (above_sized sha256 length-sha256 row) ∙ ap (λ (k : ℕ). 32 * k) (above-length sha256 row count (digests-length (2 * count) (drop from space))) in
+      ap₂ (λ (x y : List ℕ). x ++ y) front (e ∙ ap₂ (λ (x : List ℕ) (y : List Digest). sets x 0 (joined (above sha256 y))) behind same)
+      ∙ laid_behind space (joined (above sha256 row)) (from + 64 * count) (omega arith)
+
+  pub row_kept : {back after : List ℕ} → back ≡ drop (from + 64 * count) space → after ≡ sets back 0 (joined (above sha256 (digests (2 * (length lower / 64)) lower)))
+      → length (below ++ after) ≡ length space
+  row_kept behind e = ap length (row_laid behind e) ∙ length-sets space (from + 64 * count) (joined (above sha256 (digests (2 * count) (drop from space))))
 
 -- A loop that writes row above row: a turn, and the end.
 rows_step : (space : List ℕ) (from d count : ℕ) → count ≡ 2 ^ d → from + tree_size (suc d) ≡ length space

@@ -23,7 +23,7 @@ use Rattle.message.specs.Lists.{tabulate}
 use Rattle.message.proofs.Tabulate.{tabulate-length, tabulate_snoc, tabulate_sized}
 use Rattle.buffer.specs.Buffer.{put}
 use Rattle.buffer.proofs.BufferLaws.{put-fits}
-use Rattle.message.proofs.Placed.{part_length, part-drop, part_before, drop-sets, sets_behind}
+use Rattle.message.proofs.Placed.{part_length, part-drop, drop-sets, sets_behind}
 use Rattle.tree.specs.Tree.{tree_size, values_of, leaf_row}
 
 -- Digests stored in l one after the other, from index at on: one digest more, and a loop's turn that puts it.
@@ -118,34 +118,15 @@ module _ (hash : List ℕ → Digest) where
       (ap (λ (x : List Digest). node hash (take 32 xs) (take 32 (drop 32 xs)) ∷ x)
       (above_pairs n (drop 32 (drop 32 xs)) ∙ ap (λ (g : ℕ → Digest). tabulate n g) (λ j i. pair_next xs i j)))
 
--- Two digests of the row below, which the row above does not touch.
-row_node : {d r : List ℕ} (l vs : List ℕ) (from to i : ℕ) → d ≡ sets l to vs → from + 64 * i + 64 ≤ to
-    → r ≡ node sha256 (part (from + 64 * i) 32 d) (part (from + 64 * i + 32) 32 d) → r ≡ pair_at sha256 (drop from l) i
-row_node {d} {r} l vs from to i p h e =
-    e
-    ∙ ap₂ (λ (x y : List ℕ). node sha256 x y)
-    (ap (λ (x : List ℕ). part (from + 64 * i) 32 x) p
-    ∙ part_before l vs (from + 64 * i) 32 to (omega arith)
-    ∙ sym (part-drop (64 * i) from 32 l))
-    (ap (λ (x : List ℕ). part (from + 64 * i + 32) 32 x) p
-    ∙ part_before l vs (from + 64 * i + 32) 32 to (omega arith)
-    ∙ ap (λ (k : ℕ). part k 32 l) (omega arith)
-    ∙ sym (part-drop (64 * i + 32) from 32 l))
-
-pub row_more : {d r : List ℕ} (l : List ℕ) (from to count i : ℕ) → to ≡ from + 64 * count → from + 96 * count ≤ length l → i < count
-    → d ≡ sets l to (joined (tabulate i (pair_at sha256 (drop from l))))
-    → r ≡ node sha256 (part (from + 64 * i) 32 d) (part (from + 64 * i + 32) 32 d)
-    → put d (to + 32 * i) r ≡ sets l to (joined (tabulate (i + 1) (pair_at sha256 (drop from l))))
+-- A loop that writes the row above: a turn, and the end.
+pub row_more : {d r : List ℕ} (l below : List ℕ) (i : ℕ) → 32 * i + 32 ≤ length l → d ≡ sets l 0 (joined (tabulate i (pair_at sha256 below)))
+    → r ≡ node sha256 (part (64 * i) 32 below) (part (64 * i + 32) 32 below) → put d (32 * i) r ≡ sets l 0 (joined (tabulate (i + 1) (pair_at sha256 below)))
 unfolding node
-row_more l from to count i q h b p e =
-    block-put l to (to + 32 * i) i (pair_at sha256 (drop from l)) (λ k. length-sha256 _) refl (omega arith) p
-    (row_node l (joined (tabulate i (pair_at sha256 (drop from l)))) from to i p (omega arith) e)
+row_more l below i h p e = block-put l 0 (32 * i) i (pair_at sha256 below) (λ k. length-sha256 _) (omega arith) h p e
 
-pub row_done : {d : List ℕ} (l : List ℕ) (from to count i : ℕ) → to ≡ from + 64 * count → i ≤ count → count ≤ i
-    → d ≡ sets l to (joined (tabulate i (pair_at sha256 (drop from l)))) → d ≡ sets l (from + 64 * count) (joined (above sha256 (digests (2 * count) (drop from l))))
-row_done l from to count i q h k p =
-    let all : i ≡ count = omega arith in
-    p ∙ rw (q, all, above_pairs sha256 count (drop from l))
+pub row_done : {d : List ℕ} (l below : List ℕ) (count i : ℕ) → i ≡ count → d ≡ sets l 0 (joined (tabulate i (pair_at sha256 below)))
+    → d ≡ sets l 0 (joined (above sha256 (digests (2 * count) below)))
+row_done l below count i h p = p ∙ rw (h, above_pairs sha256 count below)
 
 -- The node above two digests that stand one after the other in a space.
 pub node_parts : {r : Digest} (xs : List ℕ) (i n : ℕ) → i + 64 ≤ length xs → n ≡ 64

@@ -2,7 +2,7 @@
 // the path of a leaf read from there.
 #![tactic(auto)]
 
-ghost use Rattle.std.specs.Prelude.{◌≡◌, ◌+◌, ◌*◌, ◌^◌, ◌≤◌, ◌<◌, MatchOption, length, take, drop};
+ghost use Rattle.std.specs.Prelude.{◌≡◌, ◌+◌, ◌*◌, ◌/◌, ◌%◌, ◌^◌, ◌≤◌, ◌<◌, MatchOption, length, take};
 ghost use Rattle.std.proofs.lemmas.List.Edits.{sets};
 ghost use Rattle.sha256.specs.Sha256.{sha256};
 ghost use Rattle.message.specs.Bytes.{joined, part};
@@ -43,6 +43,7 @@ impl Height {
 }
 
 // The values of leaf m, where so many leaves have so many values each.
+// Stays: the count is the step from one value of a leaf to the next, not a length, and no call copies by steps; no plainer.
 fn values_of(per: usize, count: usize, values: &[u32], m: usize) -> [u32; 4]
     requires { ((per ≤ 4) × (count ≤ 1073741824)) × ((m < count) × (length values.now ≡ per * count)) }
     ensures { take per result ≡ spec.values_of per count values.now m }
@@ -89,15 +90,14 @@ fn node_above(space: &[u8], at: usize) -> [u8; 32]
     message::tagged_hash(1, left, right)
 }
 
-// The row of count nodes above the row that starts at from, behind it.
-fn row(space: &mut [u8], from: usize, count: usize)
-    requires { from + 96 * count ≤ length space.old }
-    ensures { space.new ≡ sets space.old (from + 64 * count) (joined (merkle.above sha256 (merkle.digests (2 * count) (drop from space.old)))) }
+// The nodes above the digests below, to the front of the space above.
+fn row(below: &[u8], above: &mut [u8])
+    requires { (length below.now % 64 ≡ 0) × (length below.now ≤ 2 * length above.old) }
+    ensures { above.new ≡ sets above.old 0 (joined (merkle.above sha256 (merkle.digests (2 * (length below.now / 64)) below.now))) }
 {
-    let to = from + 64 * count;
-    for i in 0..count {
-        let node = node_above(space, from + 64 * i);
-        buffer::put(space, to + 32 * i, &node);
+    for i in 0..below.len() / 64 {
+        let node = node_above(below, 64 * i);
+        buffer::put(above, 32 * i, &node);
     }
 }
 
@@ -110,7 +110,8 @@ fn hash_rows(space: &mut [u8], height: Height)
     let mut count = height.leaves();
     for _ in 0..height.levels {
         count /= 2;
-        row(space, from, count);
+        let (below, above) = space.split_at_mut(from + 64 * count);
+        row(&below[from..], above);
         from += 64 * count;
     }
 }

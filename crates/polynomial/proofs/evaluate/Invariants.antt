@@ -7,5 +7,5 @@ use Rattle.polynomial.proofs.evaluate.Given as goal
 abbrev pub invariant-loop-value : goal.invariant-loop-value
 invariant-loop-value l = record {
   at_the_point : l.x ≡ point l.n l.layer l.value-index;
-  stored : take l.value-index l.value-items ≡ first_values l.n l.layer l.value-index (take l.count l.fn.room);
+  stored : take l.value-index l.value-items ≡ first_values l.n l.layer l.value-index l.polynomial;
 }

@@ -11,9 +11,7 @@ unfolding tabulate joined
 loop-i-init c = refl
 
 pub loop-i-preserved : goal.loop-i-preserved
-loop-i-preserved c =
-    c.put.ensures ∙ row_more _ c.args.from _ c.args.count _ refl c.requires (omega arith) c.loop-i.invariant c.node_above-node.ensures
+loop-i-preserved c = c.put.ensures ∙ row_more _ c.args.below.now c.loop-i.i (omega arith) c.loop-i.invariant c.node_above-node.ensures
 
 pub returns : goal.returns
-returns c =
-    row_done _ c.args.from _ c.args.count c.loop-i.i refl (omega arith) (omega arith) c.loop-i.invariant
+returns c = row_done _ c.args.below.now _ c.loop-i.i (omega arith) c.loop-i.invariant
