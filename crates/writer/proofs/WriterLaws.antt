@@ -8,7 +8,6 @@ use borrow.Author.Tests.{lt-leb, le-leb, eq-eqb}
 use lib.Dec.{eqb, leb, ltb}
 use Rattle.std.specs.List.{list_all}
 use lib.ListN.{length, take}
-use lib.Seq.{length-take-le}
 use Rattle.answer.specs.declared.Refusal.{Refusal}
 use Rattle.answer.specs.declared.Refusal.TheVariants as refusal
 use Rattle.answer.specs.Refusals.{number_of}
@@ -36,11 +35,9 @@ unfolding all_below
 below_all [] = refl
 below_all (c ∷ l) = ap (λ t. ltb c modulus && t) (below_all l)
 
--- The first numbers, put to the front of an array.
-pub array_front : {r : List ℕ} (d s : List ℕ) (n : ℕ) → n ≤ length d → n ≤ length s → r ≡ put d 0 (take n s) → take n r ≡ take n s
-array_front d s n h k e =
-    let long : length (take n s) ≡ n = length-take-le n s k in
-    ap (take n) (e ∙ put-fits d 0 (take n s) (omega arith)) ∙ take-there d (take n s) n long h
+-- Numbers, put to the front of an array.
+pub array_front : {r : List ℕ} (d s : List ℕ) → length s ≤ length d → r ≡ put d 0 s → take (length s) r ≡ s
+array_front d s h e = ap (take (length s)) (e ∙ put-fits d 0 s (omega arith)) ∙ take-there d s (length s) refl h
 
 -- No refusal has the number of success.
 pub never_open : (r : Refusal) → number_of r ≡ 0 → ⊥

@@ -6,7 +6,7 @@ ghost use Rattle.writer.specs.Writer as spec;
 use answer::Refusal;
 use felt::Felt;
 use params::{Params, ValidParams};
-use writer_layers::layer::Layer;
+use writer_layers::scratch::Layer;
 
 // Whether every coefficient is below the modulus.
 fn all_below(coefficients: &[u32]) -> bool
@@ -27,7 +27,7 @@ pub fn tested(
     ensures ok { IfOk result (λ v. v.params ≡ p) }
 {
     let valid = params::admitted(p)?;
-    let first = Layer { valid, number: 0 };
+    let first = Layer { valid, index: 0 };
     if coefficients.len() != first.count() {
         return Err(Refusal::WrongCoefficientCount);
     }

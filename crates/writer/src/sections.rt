@@ -10,15 +10,15 @@ ghost use Rattle.writer_model.specs.Buffers as spec;
 
 use params::{Params, ValidParams};
 use transcript::Transcript;
-use writer_layers::queries::Committed;
+use writer_layers::scratch::Scratch;
 
-// The first count numbers, at most 64 of them, as an array.
-fn final_of(numbers: &[u32], count: usize) -> [u32; 64]
-    requires { (count ≤ 64) × (count ≤ length numbers.now) }
-    ensures { take count result ≡ take count numbers.now }
+// Numbers, at most 64 of them, as the front of an array.
+fn final_of(numbers: &[u32]) -> [u32; 64]
+    requires { length numbers.now ≤ 64 }
+    ensures { take (length numbers.now) result ≡ numbers.now }
 {
     let mut r = [0u32; 64];
-    buffer::put(&mut r, 0, &numbers[..count]);
+    buffer::put(&mut r, 0, numbers);
     r
 }
 
@@ -34,26 +34,28 @@ fn head(p: Params, file: &mut [u8])
 }
 
 // Section 3: the final coefficients, and the transcript that has absorbed them.
-fn finish(valid: ValidParams, s: Transcript, numbers: &[u32], file: &mut [u8]) -> Transcript
-    requires { (final_count valid.params ≤ length numbers.now) × (queries_offset valid.params ≤ length file.old) }
-    ensures state_value { result.state ≡ transcript.absorb_final sha256 s.state (take (final_count valid.params) numbers.now) }
-    ensures file_after { file.new ≡ sets (sets file.old (final_count_offset valid.params) (le 2 (final_count valid.params))) (coefficient_offset valid.params 0) (words (take (final_count valid.params) numbers.now)) }
+fn finish(scratch: &Scratch, s: Transcript, file: &mut [u8]) -> Transcript
+    requires { queries_offset scratch.now.valid.params ≤ length file.old }
+    ensures state_value { result.state ≡ transcript.absorb_final sha256 s.state (take (final_count scratch.now.valid.params) scratch.now.numbers.now) }
+    ensures file_after { file.new ≡ sets (sets file.old (final_count_offset scratch.now.valid.params) (le 2 (final_count scratch.now.valid.params))) (coefficient_offset scratch.now.valid.params 0) (words (take (final_count scratch.now.valid.params) scratch.now.numbers.now)) }
 {
-    let count = params::final_count(valid.params);
-    let at = params::root_offset(valid.params.k);
+    let p = scratch.valid.params;
+    let count = params::final_count(p);
+    let last = &scratch.numbers[..count];
+    let at = params::root_offset(p.k);
     message::put_count(file, at, count);
-    message::put_words(file, at + 2, &numbers[..count]);
-    s.absorb_final(final_of(numbers, count), count)
+    message::put_words(file, at + 2, last);
+    s.absorb_final(final_of(last), count)
 }
 
 // Section 4: the openings of the queries that the transcript draws.
-fn openings(committed: &Committed, s: Transcript, file: &mut [u8])
-    requires { file_length committed.now.valid.params ≤ length file.old }
-    ensures { file.new ≡ sets (sets file.old (query_count_offset committed.now.valid.params) (le 2 committed.now.valid.params.q)) (queries_offset committed.now.valid.params) (spec.queries_in committed.now.valid.params sha256 s.state committed.now.numbers.now committed.now.bytes.now) }
+fn openings(scratch: &Scratch, s: Transcript, file: &mut [u8])
+    requires { file_length scratch.now.valid.params ≤ length file.old }
+    ensures { file.new ≡ sets (sets file.old (query_count_offset scratch.now.valid.params) (le 2 scratch.now.valid.params.q)) (queries_offset scratch.now.valid.params) (spec.queries_in scratch.now.valid.params sha256 s.state scratch.now.numbers.now scratch.now.bytes.now) }
 {
-    let p = committed.valid.params;
+    let p = scratch.valid.params;
     message::put_count(file, params::query_count_offset(p), p.q as usize);
-    committed.queries(s, file, params::queries_offset(p));
+    scratch.queries(s, file, params::queries_offset(p));
 }
 
 // The file of a polynomial.
@@ -71,13 +73,12 @@ pub fn file(
     let p = valid.params;
     buffer::put(numbers, 0, coefficients);
     head(p, file);
-    let start = Transcript::start(p, context);
-    let layered = writer_layers::layers::layers(valid, start, numbers, bytes, file);
-    let finished = finish(valid, layered, numbers, file);
-    let committed = Committed {
+    let mut scratch = Scratch {
         valid,
         numbers,
         bytes,
     };
-    openings(&committed, finished, file);
+    let layered = scratch.layers(Transcript::start(p, context), file);
+    let finished = finish(&scratch, layered, file);
+    openings(&scratch, finished, file);
 }

@@ -83,6 +83,11 @@ module _ (p : Params) (j : ℕ) (v : Valid p) (h : j < p.k) where
         ∙ sym (sets-eq (fold β l) numbers 0 (omega arith) ∙ ap (λ k. fold β l ++ drop k numbers) end)
         ∙ ap (λ k. sets numbers 0 (fold β (take k numbers))) f
 
+-- An evaluation keeps the length of the numbers.
+pub values_kept : {xs : List ℕ} (p : Params) (j : ℕ) (numbers : List ℕ) → xs ≡ with_values p j numbers → length xs ≡ length numbers
+unfolding with_values
+values_kept p j numbers e = ap length e ∙ length-sets numbers (layer_size p.n j) (values p.n j (poly_in p j numbers))
+
 -- The leaves over a layer's values, and the tree over them.
 module _ (p : Params) (j : ℕ) (v : Valid p) (h : j < p.k) (values space : List ℕ) (full : length values ≡ layer_size p.n j)
     (whole : length space ≡ tree_size (height p j)) where

@@ -1,6 +1,5 @@
 // The layers: each is evaluated, committed and folded.
-ghost use Rattle.std.specs.Prelude.{◌≡◌, ◌*◌, ◌^◌, ◌≤◌, length};
-ghost use Rattle.std.proofs.lemmas.List.Edits.{sets};
+ghost use Rattle.std.specs.Prelude.{◌≡◌, ◌≤◌, ◌<◌, length};
 ghost use Rattle.sha256.specs.Sha256.{sha256};
 ghost use Rattle.params.specs.Parameters.{values_per_leaf, height, final_count_offset};
 ghost use Rattle.merkle.specs.Merkle.{root_of};
@@ -8,98 +7,64 @@ ghost use Rattle.polynomial.specs.Polynomial.{layer_size};
 ghost use Rattle.tree.specs.Tree.{tree_size, leaf_row, rows};
 ghost use Rattle.writer_model.specs.Buffers as spec;
 
-use crate::layer::Layer;
-use params::ValidParams;
+use crate::scratch::{Layer, Scratch};
 use transcript::Transcript;
 
-// A layer's values, from its polynomial.
-fn evaluate(layer: Layer, numbers: &mut [u32])
-    requires { 2 * 2 ^ layer.valid.params.n ≤ length numbers.old }
-    ensures { numbers.new ≡ spec.with_values layer.valid.params layer.number numbers.old }
-{
-    let room = 2 * layer.size();
-    polynomial::values(
-        &mut numbers[..room],
-        layer.count(),
-        layer.valid.params.n,
-        layer.number,
-    );
-}
-
 // The leaves over a layer's values, and the tree over them. Answers the root.
-fn hash_layer(layer: Layer, values: &[u32], space: &mut [u8]) -> [u8; 32]
-    requires { (length values.now ≡ layer_size layer.valid.params.n layer.number) × (length space.old ≡ tree_size (height layer.valid.params layer.number)) }
-    ensures value { result ≡ root_of sha256 (height layer.valid.params layer.number) (leaf_row sha256 layer.number (values_per_leaf layer.valid.params) (height layer.valid.params layer.number) values.now) }
-    ensures space_after { space.new ≡ rows sha256 (height layer.valid.params layer.number) (leaf_row sha256 layer.number (values_per_leaf layer.valid.params) (height layer.valid.params layer.number) values.now) }
+fn commit(layer: Layer, values: &[u32], space: &mut [u8]) -> [u8; 32]
+    requires { (length values.now ≡ layer_size layer.valid.params.n layer.index) × (length space.old ≡ tree_size (height layer.valid.params layer.index)) }
+    ensures value { result ≡ root_of sha256 (height layer.valid.params layer.index) (leaf_row sha256 layer.index (values_per_leaf layer.valid.params) (height layer.valid.params layer.index) values.now) }
+    ensures space_after { space.new ≡ rows sha256 (height layer.valid.params layer.index) (leaf_row sha256 layer.index (values_per_leaf layer.valid.params) (height layer.valid.params layer.index) values.now) }
 {
     let height = layer.height();
     let per = params::values_per_leaf(layer.valid.params);
-    tree::hash_leaves(layer.number, per, height, values, space);
+    tree::hash_leaves(layer.index, per, height, values, space);
     tree::build(height, space)
 }
 
-// A layer's tree, from its values. Answers the root.
-fn commit(layer: Layer, numbers: &[u32], bytes: &mut [u8]) -> [u8; 32]
-    requires { (2 * 2 ^ layer.valid.params.n ≤ length numbers.now) × (64 * 2 ^ layer.valid.params.n ≤ length bytes.old) }
-    ensures value { result ≡ spec.root_in layer.valid.params sha256 layer.number numbers.now }
-    ensures bytes_after { bytes.new ≡ sets bytes.old (spec.tree_start layer.valid.params layer.number) (spec.tree_in layer.valid.params sha256 layer.number numbers.now) }
-{
-    let size = layer.size();
-    let end = 2 * size;
-    let from = 32 * size;
-    let to = from + 64 * layer.leaves() - 32;
-    hash_layer(layer, &numbers[size..end], &mut bytes[from..to])
-}
-
-// The fold of a layer's polynomial.
-fn fold(layer: Layer, beta: u32, numbers: &mut [u32])
-    requires { 2 * 2 ^ layer.valid.params.n ≤ length numbers.old }
-    ensures { numbers.new ≡ spec.with_fold layer.valid.params layer.number beta numbers.old }
-{
-    let count = layer.count();
-    polynomial::fold(&mut numbers[..count], beta);
-}
-
-// One layer.
-fn layered(
-    layer: Layer,
-    s: Transcript,
-    numbers: &mut [u32],
-    bytes: &mut [u8],
-    file: &mut [u8],
-) -> Transcript
-    requires { (2 * 2 ^ layer.valid.params.n ≤ length numbers.old) × ((64 * 2 ^ layer.valid.params.n ≤ length bytes.old) × (final_count_offset layer.valid.params ≤ length file.old)) }
-    ensures state_value { result.state ≡ (spec.layered layer.valid.params sha256 layer.number (spec.buffers numbers.old bytes.old file.old s.state)).state }
-    ensures numbers_after { numbers.new ≡ (spec.layered layer.valid.params sha256 layer.number (spec.buffers numbers.old bytes.old file.old s.state)).numbers }
-    ensures bytes_after { bytes.new ≡ (spec.layered layer.valid.params sha256 layer.number (spec.buffers numbers.old bytes.old file.old s.state)).bytes }
-    ensures file_after { file.new ≡ (spec.layered layer.valid.params sha256 layer.number (spec.buffers numbers.old bytes.old file.old s.state)).file }
-{
-    evaluate(layer, numbers);
-    let root = commit(layer, numbers, bytes);
-    buffer::put(file, params::root_offset(layer.number), &root);
-    let next = s.absorb_root(root);
-    let beta = next.challenge();
-    fold(layer, beta, numbers);
-    next
-}
-
-// All layers.
-pub fn layers(
-    valid: ValidParams,
-    s: Transcript,
-    numbers: &mut [u32],
-    bytes: &mut [u8],
-    file: &mut [u8],
-) -> Transcript
-    requires { (2 * 2 ^ valid.params.n ≤ length numbers.old) × ((64 * 2 ^ valid.params.n ≤ length bytes.old) × (final_count_offset valid.params ≤ length file.old)) }
-    ensures state_value { result.state ≡ (spec.all_layered valid.params sha256 valid.params.k (spec.buffers numbers.old bytes.old file.old s.state)).state }
-    ensures numbers_after { numbers.new ≡ (spec.all_layered valid.params sha256 valid.params.k (spec.buffers numbers.old bytes.old file.old s.state)).numbers }
-    ensures bytes_after { bytes.new ≡ (spec.all_layered valid.params sha256 valid.params.k (spec.buffers numbers.old bytes.old file.old s.state)).bytes }
-    ensures file_after { file.new ≡ (spec.all_layered valid.params sha256 valid.params.k (spec.buffers numbers.old bytes.old file.old s.state)).file }
-{
-    let mut t = s;
-    for number in 0..valid.params.k {
-        t = layered(Layer { valid, number }, t, numbers, bytes, file);
+impl Scratch<'_> {
+    // One layer.
+    fn layer(&mut self, index: u8, s: Transcript, file: &mut [u8]) -> Transcript
+        requires layer_in { index < self.old.valid.params.k }
+        requires room { final_count_offset self.old.valid.params ≤ length file.old }
+        ensures state_value { result.state ≡ (spec.layered self.old.valid.params sha256 index (spec.buffers self.old.numbers.now self.old.bytes.now file.old s.state)).state }
+        ensures numbers_after { self.new.numbers.now ≡ (spec.layered self.old.valid.params sha256 index (spec.buffers self.old.numbers.now self.old.bytes.now file.old s.state)).numbers }
+        ensures bytes_after { self.new.bytes.now ≡ (spec.layered self.old.valid.params sha256 index (spec.buffers self.old.numbers.now self.old.bytes.now file.old s.state)).bytes }
+        ensures file_after { file.new ≡ (spec.layered self.old.valid.params sha256 index (spec.buffers self.old.numbers.now self.old.bytes.now file.old s.state)).file }
+        ensures valid_kept { self.new.valid ≡ self.old.valid }
+    {
+        let layer = Layer {
+            valid: self.valid,
+            index,
+        };
+        let size = layer.size();
+        let count = layer.count();
+        let from = 32 * size;
+        let to = from + 64 * layer.leaves() - 32;
+        let numbers = &mut *self.numbers;
+        let bytes = &mut *self.bytes;
+        polynomial::values(&mut numbers[..2 * size], count, layer.valid.params.n, index);
+        let root = commit(layer, &numbers[size..2 * size], &mut bytes[from..to]);
+        buffer::put(file, params::root_offset(index), &root);
+        let next = s.absorb_root(root);
+        let beta = next.challenge();
+        polynomial::fold(&mut numbers[..count], beta);
+        next
     }
-    t
+
+    // All layers.
+    pub fn layers(&mut self, s: Transcript, file: &mut [u8]) -> Transcript
+        requires { final_count_offset self.old.valid.params ≤ length file.old }
+        ensures state_value { result.state ≡ (spec.all_layered self.old.valid.params sha256 self.old.valid.params.k (spec.buffers self.old.numbers.now self.old.bytes.now file.old s.state)).state }
+        ensures numbers_after { self.new.numbers.now ≡ (spec.all_layered self.old.valid.params sha256 self.old.valid.params.k (spec.buffers self.old.numbers.now self.old.bytes.now file.old s.state)).numbers }
+        ensures bytes_after { self.new.bytes.now ≡ (spec.all_layered self.old.valid.params sha256 self.old.valid.params.k (spec.buffers self.old.numbers.now self.old.bytes.now file.old s.state)).bytes }
+        ensures file_after { file.new ≡ (spec.all_layered self.old.valid.params sha256 self.old.valid.params.k (spec.buffers self.old.numbers.now self.old.bytes.now file.old s.state)).file }
+        ensures valid_kept { self.new.valid ≡ self.old.valid }
+    {
+        let mut t = s;
+        for index in 0..self.valid.params.k {
+            t = self.layer(index, t, file);
+        }
+        t
+    }
 }

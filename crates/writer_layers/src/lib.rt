@@ -2,6 +2,6 @@
 // required.
 #![tactic(auto)]
 
-pub mod layer;
 pub mod layers;
 pub mod queries;
+pub mod scratch;

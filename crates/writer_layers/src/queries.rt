@@ -7,19 +7,8 @@ ghost use Rattle.params.specs.Parameters.{leaf_count, opening_length, query_leng
 ghost use Rattle.tree.specs.Tree.{values_of};
 ghost use Rattle.writer_model.specs.Buffers as spec;
 
-use crate::layer::Layer;
-use params::ValidParams;
+use crate::scratch::{Layer, Scratch};
 use transcript::Transcript;
-
-// The scratch that the layers have left their values and their trees in.
-#[derive(Clone, Copy)]
-pub struct Committed<'a> {
-    pub valid: ValidParams,
-    pub numbers: &'a [u32],
-    pub bytes: &'a [u8],
-    pub ghost numbers_fit: { 2 * 2 ^ valid.params.n ≤ length numbers.now },
-    pub ghost bytes_fit: { 64 * 2 ^ valid.params.n ≤ length bytes.now },
-}
 
 // The values of leaf m, where so many leaves have so many values each, in 4 bytes each.
 fn put_values(per: usize, count: usize, values: &[u32], m: usize, file: &mut [u8], at: usize)
@@ -31,18 +20,18 @@ fn put_values(per: usize, count: usize, values: &[u32], m: usize, file: &mut [u8
     }
 }
 
-impl Committed<'_> {
+impl Scratch<'_> {
     // The opening of a leaf of a layer.
-    fn opening(&self, number: u8, m: u32, file: &mut [u8], at: usize)
-        requires layer_in { number < self.now.valid.params.k }
-        requires leaf_in { m < leaf_count self.now.valid.params number }
-        requires room { at + opening_length self.now.valid.params number ≤ length file.old }
-        ensures { file.new ≡ sets file.old at (spec.opening_in self.now.valid.params number m self.now.numbers.now self.now.bytes.now) }
+    fn opening(&self, index: u8, m: u32, file: &mut [u8], at: usize)
+        requires layer_in { index < self.now.valid.params.k }
+        requires leaf_in { m < leaf_count self.now.valid.params index }
+        requires room { at + opening_length self.now.valid.params index ≤ length file.old }
+        ensures { file.new ≡ sets file.old at (spec.opening_in self.now.valid.params index m self.now.numbers.now self.now.bytes.now) }
     {
         let p = self.valid.params;
         let layer = Layer {
             valid: self.valid,
-            number,
+            index,
         };
         let size = layer.size();
         let count = layer.leaves();
@@ -73,10 +62,10 @@ impl Committed<'_> {
     {
         let p = self.valid.params;
         let mut to = at;
-        for number in 0..p.k {
-            let leaf = domain::leaf_of(p.n, number, m);
-            self.opening(number, leaf, file, to);
-            to += params::opening_length(p, number);
+        for index in 0..p.k {
+            let leaf = domain::leaf_of(p.n, index, m);
+            self.opening(index, leaf, file, to);
+            to += params::opening_length(p, index);
         }
     }
 

@@ -1,8 +1,8 @@
--- `writer_layers::layer::Layer::leaves` meets its contract: a tree has 2 to its height leaves.
+-- `writer_layers::scratch::Layer::leaves` meets its contract: a tree has 2 to its height leaves.
 use mathlib.Core.Path.{ap, ◌∙◌}
 use Prim.Native.Nat.{◌^◌}
 use Rattle.binary.proofs.BinaryLaws.{power_made}
-use Rattle.writer_layers.proofs.layer.Layer.leaves.Goals as goal
+use Rattle.writer_layers.proofs.scratch.Layer.leaves.Goals as goal
 
 pub returns : goal.returns
 returns c =

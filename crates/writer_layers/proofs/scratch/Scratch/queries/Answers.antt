@@ -1,7 +1,7 @@
--- `writer_layers::queries::Committed::queries` meets its contract: after i turns i queries stand in the file.
+-- `writer_layers::scratch::Scratch::queries` meets its contract: after i turns i queries stand in the file.
 use native.Mathlib.Omega.{arith}
 use Rattle.writer_layers.proofs.QueryLaws.{opened_none, opened-more, opened-done, query-next}
-use Rattle.writer_layers.proofs.queries.Committed.queries.Goals as goal
+use Rattle.writer_layers.proofs.scratch.Scratch.queries.Goals as goal
 
 pub loop-i-init : goal.loop-i-init
 loop-i-init c = record { place = omega arith; put = opened_none _ _ _ _ _ _ }

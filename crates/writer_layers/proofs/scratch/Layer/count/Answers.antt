@@ -1,7 +1,7 @@
--- `writer_layers::layer::Layer::count` meets its contract.
+-- `writer_layers::scratch::Layer::count` meets its contract.
 use native.Mathlib.Omega.{arith}
 use Rattle.binary.proofs.BinaryLaws.{power_made}
-use Rattle.writer_layers.proofs.layer.Layer.count.Goals as goal
+use Rattle.writer_layers.proofs.scratch.Layer.count.Goals as goal
 
 pub returns : goal.returns
 returns c =

@@ -3,7 +3,7 @@ use mathlib.Core.Path.{◌≡◌}
 use lib.Seq.{sets}
 use Rattle.params.specs.Parameters.{query_length}
 use Rattle.writer_layers.proofs.QueryLaws.{opened}
-use Rattle.writer_layers.proofs.queries.Committed.queries.Given as goal
+use Rattle.writer_layers.proofs.scratch.Scratch.queries.Given as goal
 
 abbrev pub invariant-loop-i : goal.invariant-loop-i
 invariant-loop-i l = record {
