@@ -31,10 +31,6 @@ pub layer_fits : (n j : ℕ) → layer_size n j ≤ 2 ^ n
 unfolding layer_size
 layer_fits n j = pow_mono (omega arith)
 
-pub layer_positive : (n j : ℕ) → 1 ≤ layer_size n j
-unfolding layer_size
-layer_positive n j = pow_pos (n - j)
-
 module _ (p : Params) (j : ℕ) (v : Valid p) (h : j < p.k) where
   pub count_fits : 2 ^ (p.n - p.b - j) ≤ layer_size p.n j
   unfolding layer_size

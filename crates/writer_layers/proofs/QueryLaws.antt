@@ -190,18 +190,13 @@ module _ (p : Params) (v : Valid p) (numbers bytes : List ℕ) (room : 64 * 2 ^ 
     unfolding opened queries_in
     opened-done file at i h e = e ∙ ap (λ k. sets file at (opened p s numbers bytes k)) h
 
--- There is room for the next opening, and for the next query.
+-- There is room for the next opening.
 pub opening_inside : (p : Params) (j d : ℕ) → query_length p 0 j + opening_length p j ≤ query_length p 0 (j + 1 + d)
 opening_inside p j zero = omega (arith, query_snoc p 0 j, ap (opening_length p) (zero-add j), ap (query_length p 0) (add-zero (j + 1)))
 opening_inside p j (suc d) = omega (arith, opening_inside p j d, query_snoc p 0 (j + 1 + d), ap (query_length p 0) (add_suc_one (j + 1) d))
   where
     add_suc_one : (a d : ℕ) → a + suc d ≡ a + d + 1
     add_suc_one a d = omega arith
-
-pub query_inside : (i q size : ℕ) → i < q → i * size + size ≤ q * size
-query_inside i q size h =
-    let more : suc i * size ≤ q * size = mul-le-mul_right size h in
-    omega (arith, suc-mul i size)
 
 pub leaf-below : {l : ℕ} (p : Params) (j m : ℕ) → l ≡ m % half p.n j → l < leaf_count p j
 unfolding half
@@ -211,10 +206,6 @@ pub opening_room : {to : ℕ} (p : Params) (at j size : ℕ) → j < p.k → to 
 opening_room p at j size h e fits =
     let all : j + 1 + (p.k - (j + 1)) ≡ p.k = omega arith in
     omega (arith, opening_inside p j (p.k - (j + 1)), ap (query_length p 0) all)
-
-pub query_room : {to : ℕ} (p : Params) (at i size : ℕ) → i < p.q → to ≡ at + i * query_length p 0 p.k → at + p.q * query_length p 0 p.k ≤ size
-    → to + query_length p 0 p.k ≤ size
-query_room p at i size h e fits = omega (arith, query_inside i p.q (query_length p 0 p.k) h)
 
 -- The place after an opening, and after a query.
 pub opening_next : {to l : ℕ} (p : Params) (at j : ℕ) → to ≡ at + query_length p 0 j → l ≡ opening_length p j → to + l ≡ at + query_length p 0 (j + 1)

@@ -58,14 +58,3 @@ after_more {n} {n₁} {b} {b₁} {f} {f₁} {s} {s₁} p w j a es en eb ef =
 
     on : {A : Type 0} {x : A} (part : Buffers → A) → x ≡ part (layered p sha256 j (buffers n b f s)) → x ≡ part (all_layered p sha256 (j + 1) w)
     on part e = e ∙ ap (λ u. part (layered p sha256 j u)) before ∙ ap (λ k. part (all_layered p sha256 k w)) (sym (add-one j))
-
-pub after_all : {n b f : List ℕ} {s : Digest} (p : Params) (w : Buffers) (j : ℕ) → j ≡ p.k → After p w j n b f s
-    → (s ≡ (all_layered p sha256 p.k w).state)
-    × ((n ≡ (all_layered p sha256 p.k w).numbers) × ((b ≡ (all_layered p sha256 p.k w).bytes) × (f ≡ (all_layered p sha256 p.k w).file)))
-after_all p w j e a = (
-  a.state_is ∙ ap (λ k. (all_layered p sha256 k w).state) e,
-  (
-    a.numbers_are ∙ ap (λ k. (all_layered p sha256 k w).numbers) e,
-    (a.bytes_are ∙ ap (λ k. (all_layered p sha256 k w).bytes) e, a.file_is ∙ ap (λ k. (all_layered p sha256 k w).file) e),
-  ),
-)
