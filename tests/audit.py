@@ -49,7 +49,14 @@ BY_POWERS_OF_TWO = ["field", "felt", "fold"]  # their code, and what it calls, d
 WRAPPING = re.compile(r"wrapping_(add|sub)_u(8|16|32|64)")  # what that code may call of std::num
 METHODS = set("len min map and_then wrapping_add wrapping_sub".split())  # and of the library's methods: none of these divides
 # crates of one part: what may name them. Their functions are no interface for others, and may require what their callers have tested.
-WITHIN = {"reader_items": {"reader_queries", "reader_pieces", "reader"}, "reader_queries": {"reader_pieces"}, "reader_pieces": {"reader"}, "writer_layers": {"writer"}}
+WITHIN = {
+    "reader_items": {"reader_queries", "reader_pieces", "reader"},
+    "reader_queries": {"reader_pieces"},
+    "reader_pieces": {"reader"},
+    "writer_layers": {"writer"},
+    "streams": {"verify", "vectors", "corpus", "call_lists"},
+}
+OF_PROGRAMS = {"streams"}  # what programs share, over any reader and writer: its functions count as theirs
 TESTS_ONLY = {"test_exports"}  # passes calls on to the comparisons; no interface for users
 
 faults = []
@@ -783,7 +790,7 @@ def audit(listed=False, write=False):
     check_ghost_fields()
     check_names()
     check_divisions()
-    of_programs = [f for f in every if f.ensures and (ROOT / "crates" / f.name.split("::")[0] / "src" / "main.rt").exists()]
+    of_programs = [f for f in every if f.ensures and (f.name.split("::")[0] in OF_PROGRAMS or (ROOT / "crates" / f.name.split("::")[0] / "src" / "main.rt").exists())]
     edits = check_edits({c.name for c in calls + of_programs})
     if write:
         (ROOT / "docs" / "WRONG-PROGRAMS.md").write_text(page(calls + of_programs, edits))

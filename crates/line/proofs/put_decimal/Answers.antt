@@ -1,9 +1,0 @@
--- `line::put_decimal`: the digits put are the number's decimal.
-use Rattle.line.proofs.Texts.{decimal_room, decimal-put}
-use Rattle.line.proofs.put_decimal.Goals as goal
-
-pub put-requires : goal.put-requires
-put-requires c = decimal_room _ _ c.decimal-k.ensures.len c.decimal-k.ensures.digits c.requires
-
-pub returns : goal.returns
-returns c = decimal-put _ _ c.decimal-k.ensures.len c.decimal-k.ensures.digits c.put.ensures
