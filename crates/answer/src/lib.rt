@@ -3,7 +3,7 @@
 #![tactic(auto)]
 
 ghost use Rattle.std.specs.Prelude.{◌≡◌};
-ghost use Rattle.answer.specs.Table.{answered, open_so_far, accepted, table};
+ghost use Rattle.answer.specs.Table.{answered, table};
 ghost use Rattle.answer.specs.Refusals.{number_of};
 
 #[repr(C)]
@@ -57,38 +57,6 @@ impl Refusal {
         }
     }
 }
-
-pub const PARAMETERS_NOT_VALID: u8 = 10;
-
-pub const CLOSED: u8 = 11;
-
-pub const JOB_TOO_SHORT: u8 = 12;
-
-pub const MESSAGE_TOO_LONG: u8 = 14;
-
-pub const INVERSE_OF_ZERO: u8 = 15;
-
-pub const COUNT_DIFFERS: u8 = 20;
-
-pub const PARAMETERS_DIFFER: u8 = 21;
-
-pub const NOT_BELOW_MODULUS: u8 = 22;
-
-pub const PATH_MISSES_ROOT: u8 = 23;
-
-pub const NOT_THE_FOLDED_VALUE: u8 = 24;
-
-pub const MISSES_FINAL_POLYNOMIAL: u8 = 25;
-
-pub const TOO_FEW_BYTES: u8 = 26;
-
-pub const BYTE_AFTER_THE_END: u8 = 27;
-
-pub const WRONG_COEFFICIENT_COUNT: u8 = 30;
-
-pub const SCRATCH_TOO_SHORT: u8 = 31;
-
-pub const OUTPUT_TOO_SHORT: u8 = 32;
 
 // Every number, ascending.
 pub fn numbers() -> [u8; 19]
