@@ -35,6 +35,7 @@ fn run_end<W: Write>(out: &mut W, state: Reader) -> io::Result<Reader>
 }
 
 // A piece of len bytes, and the state that it left; none where the input ends before. Every length in 2 bytes fits the buffer.
+// Stays with input, output and state apart, here and in the calls below: a struct would hold two lent ends only to be taken apart in each contract.
 fn run_piece<R: Read, W: Write>(
     input: &mut R,
     out: &mut W,
