@@ -11,7 +11,7 @@ use lib.ListN.{length, take, drop}
 use Rattle.answer.specs.Table.{answered, open_so_far, no_such_opening}
 use Rattle.answer.specs.Refusals.{number_of}
 use Rattle.answer.specs.declared.Refusal.{Refusal}
-use Rattle.answer.specs.declared.Refusal.TheVariants as r
+use Rattle.answer.proofs.RefusalLaws.{never_open}
 use Rattle.message.specs.Bytes.{part}
 use Rattle.params.specs.declared.Params.{Params}
 use Rattle.params.specs.Admission.{admission, admits}
@@ -80,28 +80,9 @@ span_absent p size i j v n = rw (admitted p v, none (present p size i j) refl)
     none true e = absurd (n (found_facts p size i j (rw (admitted p v) e)))
     none false e = refl
 
-not_open : (r : Refusal) → ¬ (number_of r ≡ open_so_far)
-not_open r.ParametersNotValid e = omega arith
-not_open r.Closed e = omega arith
-not_open r.JobTooShort e = omega arith
-not_open r.MessageTooLong e = omega arith
-not_open r.InverseOfZero e = omega arith
-not_open r.NoSuchOpening e = omega arith
-not_open r.CountDiffers e = omega arith
-not_open r.ParametersDiffer e = omega arith
-not_open r.NotBelowModulus e = omega arith
-not_open r.PathMissesRoot e = omega arith
-not_open r.NotTheFoldedValue e = omega arith
-not_open r.MissesFinalPolynomial e = omega arith
-not_open r.TooFewBytes e = omega arith
-not_open r.ByteAfterTheEnd e = omega arith
-not_open r.WrongCoefficientCount e = omega arith
-not_open r.ScratchTooShort e = omega arith
-not_open r.OutputTooShort e = omega arith
-
 pub span_refused : (p : Params) (size i j : ℕ) (r : Refusal) → number_of r ≡ admission p → span_of (number_of r) 0 0 ≡ look_up_span p size i j
 unfolding look_up_span look_up_number
-span_refused p size i j r e = rw (e, ne_eqb (admission p) open_so_far (λ f. not_open r (e ∙ f)))
+span_refused p size i j r e = rw (e, ne_eqb (admission p) open_so_far (λ f. never_open r (e ∙ f)))
 
 -- What a caller takes by the span lies within the file, and is the part.
 within_by : (t : Bool) (s l size : ℕ) → (t ≡ true → s + l ≤ size) → cond t s 0 + cond t l 0 ≤ size

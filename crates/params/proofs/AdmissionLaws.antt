@@ -4,11 +4,11 @@ use mathlib.Core.Bool.{Bool, true, false, false≢true}
 use mathlib.Core.Path.{◌≡◌, refl, sym, ◌∙◌}
 use native.Mathlib.Omega.{arith}
 use borrow.Author.Tests.{eq-eqb, ne_eqb}
-use Rattle.std.proofs.Common.{ℕ, ◌<◌, lit<, Ok, Err, Result, IfOk, MatchResult}
+use Rattle.std.proofs.Common.{ℕ, Ok, Err, Result, IfOk, MatchResult}
 use Rattle.answer.specs.Table.{open_so_far, parameters_not_valid}
 use Rattle.answer.specs.Refusals.{number_of, number_in}
 use Rattle.answer.specs.declared.Refusal.{Refusal}
-use Rattle.answer.specs.declared.Refusal.TheVariants as r
+use Rattle.answer.proofs.RefusalLaws.{never_open}
 use Rattle.params.specs.declared.ValidParams.{ValidParams}
 use Rattle.params.specs.declared.Params.{Params}
 use Rattle.params.specs.Parameters.{Valid, valid, if_valid}
@@ -60,30 +60,10 @@ admitted_or_not p = by (valid p) refl
     by true t = yes (sym (when_valid p refl t))
     by false t = no (λ e. false≢true (sym t ∙ valid_test p (admitted-valid p e)))
 
--- A refusal's number is not 0.
-refusal_positive : (e : Refusal) → 0 < number_of e
-refusal_positive r.ParametersNotValid = lit< tt
-refusal_positive r.Closed = lit< tt
-refusal_positive r.JobTooShort = lit< tt
-refusal_positive r.MessageTooLong = lit< tt
-refusal_positive r.InverseOfZero = lit< tt
-refusal_positive r.NoSuchOpening = lit< tt
-refusal_positive r.CountDiffers = lit< tt
-refusal_positive r.ParametersDiffer = lit< tt
-refusal_positive r.NotBelowModulus = lit< tt
-refusal_positive r.PathMissesRoot = lit< tt
-refusal_positive r.NotTheFoldedValue = lit< tt
-refusal_positive r.MissesFinalPolynomial = lit< tt
-refusal_positive r.TooFewBytes = lit< tt
-refusal_positive r.ByteAfterTheEnd = lit< tt
-refusal_positive r.WrongCoefficientCount = lit< tt
-refusal_positive r.ScratchTooShort = lit< tt
-refusal_positive r.OutputTooShort = lit< tt
-
 -- A number that admitted parameters give, and 0 where they are refused.
 pub if_admitted : {F : ValidParams → Type 0} (p : Params) (r : Result ValidParams Refusal) {x y : ℕ}
     → number_in r ≡ admission p → IfOk r (λ v. v.params ≡ p) → MatchResult r F (λ _. y ≡ 0)
     → ((v : ValidParams) → v.params ≡ p → F v → y ≡ x) → y ≡ if_valid p x
 if_admitted p (Ok v) number ok f g = g v ok f ∙ if_valid_lem p _ (valid_test p (admitted-valid p (sym number)))
 if_admitted p (Err e) number ok f g =
-    f ∙ if_not_valid p _ (invalid p (valid p) refl (λ v. let one = refusal_positive e in let a = admitted p v in omega arith))
+    f ∙ if_not_valid p _ (invalid p (valid p) refl (λ v. never_open e (number ∙ admitted p v)))

@@ -3,7 +3,6 @@
 use mathlib.Core.Path.{◌≡◌, sym, ap, ◌∙◌}
 use mathlib.Core.List.{List, ◌++◌}
 use Prim.Native.Nat.{ℕ}
-use native.Mathlib.Omega.{arith}
 use lib.ListN.{length}
 use Rattle.std.proofs.lemmas.List.{nil_from_length}
 use Rattle.sha256.specs.Sha256.{sha256}
@@ -11,7 +10,7 @@ use Rattle.answer.specs.declared.Answer.{Answer}
 use Rattle.answer.specs.Table.{answered, open_so_far}
 use Rattle.answer.specs.Refusals.{number_of}
 use Rattle.answer.specs.declared.Refusal.{Refusal}
-use Rattle.answer.specs.declared.Refusal.TheVariants as r
+use Rattle.answer.proofs.RefusalLaws.{never_open}
 use Rattle.params.specs.declared.Terms.{Terms}
 use Rattle.params.specs.Admission.{admission}
 use Rattle.fri.specs.Judge.{verdict}
@@ -22,29 +21,10 @@ use Rattle.lent_reader.proofs.Through.{left_by, answered_by}
 use Rattle.reader_model.proofs.Theorem.{fed_none, fed-append, verdict-fed, verdict-refused}
 
 -- The verdict where the opening is refused.
-not_open : (r : Refusal) → ¬ (number_of r ≡ open_so_far)
-not_open r.ParametersNotValid e = omega arith
-not_open r.Closed e = omega arith
-not_open r.JobTooShort e = omega arith
-not_open r.MessageTooLong e = omega arith
-not_open r.InverseOfZero e = omega arith
-not_open r.NoSuchOpening e = omega arith
-not_open r.CountDiffers e = omega arith
-not_open r.ParametersDiffer e = omega arith
-not_open r.NotBelowModulus e = omega arith
-not_open r.PathMissesRoot e = omega arith
-not_open r.NotTheFoldedValue e = omega arith
-not_open r.MissesFinalPolynomial e = omega arith
-not_open r.TooFewBytes e = omega arith
-not_open r.ByteAfterTheEnd e = omega arith
-not_open r.WrongCoefficientCount e = omega arith
-not_open r.ScratchTooShort e = omega arith
-not_open r.OutputTooShort e = omega arith
-
 pub refused-verdict : (a : Terms) (r : Refusal) → number_of r ≡ admission a.params → (bytes : List ℕ)
     → answered (number_of r) 0 ≡ verdict sha256 a bytes
 unfolding opened
-refused-verdict a r e bytes = ap (λ (n : ℕ). answered n 0) e ∙ verdict-refused sha256 a bytes (λ f. not_open r (e ∙ f))
+refused-verdict a r e bytes = ap (λ (n : ℕ). answered n 0) e ∙ verdict-refused sha256 a bytes (λ f. never_open r (e ∙ f))
 
 -- What a caller holds after a piece, and what the end call answers it.
 pub fed-piece : {s r : Reader} {x : Outcome} (bytes : List ℕ) → s ≡ r → x ≡ outcome_of (pieced sha256 s bytes) → reader_of x.held ≡ fed sha256 r bytes

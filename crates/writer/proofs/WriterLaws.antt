@@ -8,9 +8,6 @@ use borrow.Author.Tests.{lt-leb, le-leb, eq-eqb}
 use lib.Dec.{eqb, leb, ltb}
 use Rattle.std.specs.List.{list_all}
 use lib.ListN.{length, take}
-use Rattle.answer.specs.declared.Refusal.{Refusal}
-use Rattle.answer.specs.declared.Refusal.TheVariants as refusal
-use Rattle.answer.specs.Refusals.{number_of}
 use Rattle.params.specs.declared.Params.{Params}
 use Rattle.params.specs.Parameters.{file_length}
 use Rattle.params.specs.Admission.{admission}
@@ -38,26 +35,6 @@ below_all (c ∷ l) = ap (λ t. ltb c modulus && t) (below_all l)
 -- Numbers, put to the front of an array.
 pub array_front : {r : List ℕ} (d s : List ℕ) → length s ≤ length d → r ≡ put d 0 s → take (length s) r ≡ s
 array_front d s h e = ap (take (length s)) (e ∙ put-fits d 0 s (omega arith)) ∙ take-there d s (length s) refl h
-
--- No refusal has the number of success.
-pub never_open : (r : Refusal) → number_of r ≡ 0 → ⊥
-never_open refusal.ParametersNotValid e = omega arith
-never_open refusal.Closed e = omega arith
-never_open refusal.JobTooShort e = omega arith
-never_open refusal.MessageTooLong e = omega arith
-never_open refusal.InverseOfZero e = omega arith
-never_open refusal.NoSuchOpening e = omega arith
-never_open refusal.CountDiffers e = omega arith
-never_open refusal.ParametersDiffer e = omega arith
-never_open refusal.NotBelowModulus e = omega arith
-never_open refusal.PathMissesRoot e = omega arith
-never_open refusal.NotTheFoldedValue e = omega arith
-never_open refusal.MissesFinalPolynomial e = omega arith
-never_open refusal.TooFewBytes e = omega arith
-never_open refusal.ByteAfterTheEnd e = omega arith
-never_open refusal.WrongCoefficientCount e = omega arith
-never_open refusal.ScratchTooShort e = omega arith
-never_open refusal.OutputTooShort e = omega arith
 
 -- The tests in their order, as one function of what they find.
 unfoldable pub tests : ℕ → Bool → Bool → Bool → Bool → Bool → ℕ

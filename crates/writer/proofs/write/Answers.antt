@@ -6,7 +6,7 @@ use Rattle.sha256.specs.Sha256.{sha256}
 use Rattle.params.specs.Parameters.{file_length}
 use Rattle.params.proofs.ParameterLaws.{from_valid}
 use Rattle.built.specs.Built.{built_file}
-use Rattle.writer.proofs.WriterLaws.{never_open}
+use Rattle.answer.proofs.RefusalLaws.{never_open}
 use Rattle.writer.proofs.WrittenLaws.{passed, length-small, refused-left, succeeded-left}
 use Rattle.writer.proofs.write.Goals as goal
 
