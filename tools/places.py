@@ -34,6 +34,8 @@ class Function:
         at = text.index("(", m.end() - 1)
         end = closing(text, at)
         self.params = [" ".join(p.split()) for p in re.split(r",(?![^<(\[]*[>)\]])", text[at + 1 : end]) if p.strip()]
+        self.result = re.compile(r"[^{;]*?(?=\brequires\b|\bensures\b|\{|;(?!\s*(?:\w+|\d+)\]))").match(text, end + 1)
+        self.result = self.result.group() if self.result else ""
         self.requires = []
         while True:
             c = re.compile(r"(?:[^{};\[]|\[[^\]]*\])*?" + CONTRACT.pattern).match(text, end + 1)
@@ -45,7 +47,6 @@ class Function:
             end = close
         brace = text.find("{", end + 1)
         close = closing(text, brace)
-        self.result = text[end + 1 : brace]
         self.body = text[brace + 1 : close]
 
     def where(self):

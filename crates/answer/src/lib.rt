@@ -6,6 +6,7 @@ ghost use Rattle.std.specs.Prelude.{◌≡◌};
 ghost use Rattle.answer.specs.Table.{answered, table};
 ghost use Rattle.answer.specs.Refusals.{number_of};
 
+// Stays a number (C interface): programs in C read it, and the memory that they lend to a reader may hold any.
 #[repr(C)]
 #[derive(Clone, Copy, Debug, PartialEq, Eq)]
 pub struct Answer {
@@ -41,6 +42,7 @@ pub enum Refusal {
 }
 
 impl Refusal {
+    // Stays a method: `u8::from(refusal)` would say less at each call; no plainer.
     pub fn number(self) -> u8
         ensures { result ≡ number_of self }
     {

@@ -93,6 +93,7 @@ pub fn admitted(p: Params) -> Result<ValidParams, Refusal>
 }
 
 // Whether a caller's arguments are admitted: the refusal's number, or 0.
+// Stays beside `admitted`: a named call that gives a number and cannot fail (its contract).
 pub fn admission(p: Params) -> u8
     ensures { result ≡ admission.admission p }
 {
