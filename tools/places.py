@@ -163,7 +163,7 @@ def point6():
 
 def point7():
     """a match that chooses which step to run"""
-    yield from lines(r"^\s*match stage \{")
+    yield from lines(r"^\s*match [\w.]*stage \{")
 
 
 for point in (point1, point2, point3, point4, point5, point6, point7):

@@ -3,12 +3,11 @@ use Prim.Native.Nat.{ℕ, suc, ◌+◌, ◌≤◌, ◌<◌}
 use mathlib.Core.List.{List, [], ◌∷◌, ◌++◌, append_assoc}
 use mathlib.Core.Path.{◌≡◌, sym, ap, ◌∙◌}
 use native.Mathlib.Nat.{add-zero}
-use native.Mathlib.Numerals.{add-one}
 use native.Mathlib.Omega.{arith}
 use borrow.Author.Tests.{le-leb, lt-leb}
 use borrow.Rule.Slice.PartMut.{put_mid}
-use lib.ListN.{length, take, drop, get_or, set}
-use lib.Seq.{sets, sets-eq, drop-drop, take-suc, length-take-le}
+use lib.ListN.{length, take, drop, set}
+use lib.Seq.{sets, sets-eq, drop-drop}
 use Rattle.buffer.specs.Buffer.{put}
 
 module _ {A : Type 0} where
@@ -34,11 +33,3 @@ module _ {A : Type 0} where
   put_copied buffer at part h e copied =
       rw (e, copied, drop-drop (length part) at buffer)
       (sym (append_assoc (take at buffer) part (drop (at + length part) buffer)) ∙ sym (sets-eq part buffer at h) ∙ sym (put-fits buffer at part h))
-
--- A loop that copies s into l from index at on: one element more.
-pub copy_more : {d : List ℕ} (l s : List ℕ) (at i : ℕ) → d ≡ sets l at (take i s) → i < length s
-    → set d (at + i) (get_or s i 0) ≡ sets l at (take (i + 1) s)
-copy_more {d} l s at i e h =
-    let long : length (take i s) ≡ i = length-take-le i s (omega arith) in
-    rw (e, add-one i, take-suc s i 0 h)
-    (ap (λ (k : ℕ). set (sets l at (take i s)) (at + k) (get_or s i 0)) (sym long) ∙ sets-append l (take i s) (get_or s i 0 ∷ []) at)

@@ -25,6 +25,7 @@ fn dispatch(
     ensures { whole result roots.new challenges.new coefficients.new ≡ after_item sha256 c.core.stage c.core (tables roots.old challenges.old coefficients.old) }
 {
     let params = c.core.params;
+    // Stays a match (C interface): which item comes next lies in C's arrays from call to call, where no closure can.
     match c.core.stage {
         Stage::ParameterCount => sections::after_count(c, params::HEADER_SIZE, Stage::Parameters),
         Stage::Parameters => sections::after_parameters(c),
