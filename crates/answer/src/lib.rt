@@ -42,7 +42,7 @@ pub enum Refusal {
 }
 
 impl Refusal {
-    // Stays a method: `u8::from(refusal)` would say less at each call; no plainer.
+    // Stays a method (no plainer: `u8::from(refusal)` is longer at each call, and a number is what the name says).
     pub fn number(self) -> u8
         ensures { result ≡ number_of self }
     {

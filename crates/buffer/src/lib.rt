@@ -4,6 +4,7 @@
 ghost use Rattle.std.specs.Prelude.{◌≡◌};
 ghost use Rattle.buffer.specs.Buffer as spec;
 
+// Stays a buffer and a place in it, here and in the crates above (what may not change: `specs/Buffer: put` is at a place, and total).
 pub fn put<T: Copy>(buffer: &mut [T], at: usize, part: &[T])
     ensures { buffer.new ≡ spec.put buffer.old at part.now }
 {
@@ -31,7 +32,7 @@ impl Zero for u32 {
     const ZERO: u32 = 0;
 }
 
-// A loop, since `fill` asks that a clone cannot fail, which `Copy` doesn't say.
+// Stays a loop (no plainer: `fill` asks that a clone cannot fail, which `Copy` doesn't say, so that `Zero` would need a law for it).
 pub fn clear<T: Zero>(buffer: &mut [T])
     ensures { buffer.new ≡ spec.cleared_to T.ZERO buffer.old }
 {

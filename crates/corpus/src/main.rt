@@ -18,7 +18,7 @@ fn read_job<R: Read>(input: &mut R, count: u32) -> io::Result<Option<Answer>>
 {
     let mut state = job::begin();
     let mut rest = count as usize;
-    // Stays a `while`: it counts no index, and the size of each part hangs on what is left; a `for` over the parts would keep `rest` beside it.
+    // Stays a `while` (no plainer: it counts no index, and a `for` over the parts would keep `rest` beside it).
     while rest > 0 {
         let mut buf = [0u8; CHUNK];
         let want = rest.min(CHUNK);

@@ -17,7 +17,7 @@ pub struct Felt {
 }
 
 // A checked call's answer, and its value beside it: 0 beside a refusal.
-// Stays: programs in C read it, and the calls that give it are named as they are.
+// Stays (C interface: `test_exports` hands it out; what may not change: the contracts of `Felt::sum` and the five calls like it).
 #[repr(C)]
 #[derive(Clone, Copy, Debug, PartialEq, Eq)]
 pub struct FieldAnswer {
@@ -112,7 +112,7 @@ impl Felt {
         Ok((self.checked()?, other.checked()?))
     }
 
-    // Stays beside the two calls below: the interface names the three, and what they share is `both` and From.
+    // Stays beside the two below (what may not change: docs/PROMISES.md names the three calls); what they share is `both` and From.
     pub fn sum(self, other: Felt) -> FieldAnswer
         ensures { result ≡ sum_answer self.value other.value }
     {

@@ -1,6 +1,6 @@
 // The reader as a caller holds it from call to call: arrays of numbers, lent to each call and changed in place. A piece that ends inside an item touches
-// the item alone; for any other the state is taken out of the arrays, goes through the reader by value, and is put back. Whatever numbers a caller hands
-// in are a state, and no call has a `requires`.
+// the item alone; for any other the small part is taken out of its arrays, goes through the reader by value, and is put back, and the tables change where
+// they lie. Whatever numbers a caller hands in are a state, and no call has a `requires`.
 #![tactic(auto)]
 
 mod parts;
@@ -103,7 +103,7 @@ pub fn read(
 }
 
 // A piece, of any number of bytes. What a short piece touches comes first, so that all of it goes in registers.
-// Stays: the C interface, and the speed of pieces of one byte; a struct of the nine would lie in memory.
+// Stays (C interface): the nine arrays travel apart.
 pub fn piece(
     u8s: &mut [u8; U8S],
     u32s: &mut [u32; U32S],

@@ -23,7 +23,7 @@ pub fn absorb_layer(t: &mut Transcript, root: [u8; 32]) -> u32
 }
 
 // Absorbs the first count of the final coefficients in place.
-// Stays an array with a count: `lent_transcript::absorb_final` keeps its signature, and so does `finish`.
+// Stays an array with a count (what may not change: docs/PROMISES.md names `lent_transcript::absorb_final` and `finish`).
 pub fn absorb_final(t: &mut Transcript, coefficients: [u32; 64], count: usize)
     ensures { t.new.state ≡ spec.absorb_final sha256 t.old.state (take count coefficients) }
 {

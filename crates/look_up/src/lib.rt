@@ -28,6 +28,7 @@ struct Opening {
 }
 
 // The opening of a query in a layer, in a proof of a length.
+// Stays with its four numbers apart, as the calls below (C interface; what may not change: the contracts of `look_up_span` and `look_up`).
 fn opening_of(p: Params, length: usize, query: usize, layer: usize) -> Result<Opening, Refusal>
     ensures { MatchResult result (λ o. spec.span_of open_so_far o.start o.length ≡ spec.look_up_span p length query layer) (λ r. spec.span_of (number_of r) 0 0 ≡ spec.look_up_span p length query layer) }
 {

@@ -38,7 +38,7 @@ pub const HEADER_SIZE: usize = 4;
 pub const ROOT_COUNT_OFFSET: usize = 2 + HEADER_SIZE;
 
 // The parameter bytes, as section 1, the first hash and a job have them.
-// Stays, as does `from_header`: the interface names them, and a From beside them would do the same twice.
+// Stays, as does `from_header` (what may not change: docs/PROMISES.md names them; a From beside them would do the same twice).
 pub fn header(p: Params) -> [u8; HEADER_SIZE]
     ensures { result ≡ spec.header p }
 {
@@ -93,7 +93,7 @@ pub fn admitted(p: Params) -> Result<ValidParams, Refusal>
 }
 
 // Whether a caller's arguments are admitted: the refusal's number, or 0.
-// Stays beside `admitted`: a named call that gives a number and cannot fail (its contract).
+// Stays beside `admitted`, which all crates ask (what may not change: docs/PROMISES.md names it, and it cannot fail).
 pub fn admission(p: Params) -> u8
     ensures { result ≡ admission.admission p }
 {
@@ -151,7 +151,7 @@ pub fn query_length(p: Params, layers: u8) -> usize
 }
 
 // The number F of final coefficients.
-// Stays, as do the four like it: the interface names each with these arguments, and what they share is `admitted`.
+// Stays, as do the four like it (what may not change: docs/PROMISES.md names each); what they share is `admitted`.
 pub fn final_count(p: Params) -> usize
     ensures { result ≡ spec.if_valid p (spec.final_count p) }
 {

@@ -18,7 +18,7 @@ fn evaluate(polynomial: &[u32], n: u8, layer: u8, values: &mut [u32])
 }
 
 // The engine: the values of the first count numbers of a layer's room, into its second half.
-// Stays: a count beside the room, since what may not change is the signature of `values`.
+// Stays with a count beside the room (what may not change: docs/PROMISES.md names `polynomial::values`).
 #[tactic(auto, using(crate::proofs::PolynomialLaws::size_made, crate::proofs::PolynomialLaws::front_of_half), unfolding(crate::specs::Polynomial::evaluated, crate::specs::Polynomial::is_room))]
 pub fn values(room: &mut [u32], count: usize, n: u8, layer: u8)
     ensures { room.new ≡ spec.evaluated n layer count room.old }

@@ -16,7 +16,7 @@ use reader_model::{
 use transcript::Transcript;
 
 // A piece: its answer, and the small part of the state after it; the tables are lent and changed in place.
-// Stays three arrays (C interface; what may not change: its signature).
+// Stays three arrays (C interface: `lent_reader` passes C's on; what may not change: the contract of `piece_in_place`).
 #[tactic(auto, unfolding(reader_model::specs::Model::pieced))]
 pub fn piece_in_place(
     core: Core,

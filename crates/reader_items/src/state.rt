@@ -62,7 +62,7 @@ pub fn closed_state() -> Reader
 }
 
 // The answer of a reader that is not stopped, of its item's start and fill.
-// Stays a number (no plainer: an open reader's, 0 or 1, is no refusal).
+// Stays a number (no plainer: it is 0, 1 or 26, and only the last is a refusal's).
 #[tactic(auto, unfolding(reader_model::specs::Model::open_answer))]
 pub fn open_answer(number: u8, start: u32, fill: usize) -> Answer
     ensures { result ≡ open_answer number start fill }
@@ -102,7 +102,7 @@ fn tell(kept: Answer) -> Answer
 }
 
 // The answer of a reader in this state, where an open one answers with this number.
-// Stays a number, as in `open_answer` (no plainer).
+// Stays a number (no plainer), as in `open_answer`.
 #[tactic(auto, unfolding(reader_model::specs::Model::answer_of))]
 pub fn answer_of(c: Core, number: u8) -> Answer
     ensures { result ≡ answer_of c number }

@@ -86,7 +86,7 @@ pub struct Reader {
 }
 
 // What a call gives: its answer, and the state that it leaves.
-// Stays (what may not change: `pieced` and `ended` of the model give a state beside a refusal too).
+// Stays an answer beside a state (what may not change: `pieced` and `ended` of the model give a state beside a refusal too).
 #[derive(Clone, Copy)]
 pub struct Reply {
     pub answer: Answer,
@@ -94,7 +94,7 @@ pub struct Reply {
 }
 
 // What a call on a state whose tables are lent gives: its answer, and the small part that it leaves.
-// Stays (what may not change: the contract of `reader::piece_in_place` names the fields).
+// Stays an answer beside a state (what may not change: the contract of `reader::piece_in_place` names the fields).
 #[derive(Clone, Copy)]
 pub struct Progress {
     pub answer: Answer,

@@ -58,8 +58,8 @@ fn advance(
     }
 }
 
-// A run of bytes goes into the item's buffer, from index `at` on. One byte is stored, since a run is copied by a call: fed byte by byte, a proof takes
-// 8 % more instructions without it.
+// A run of bytes goes into the item's buffer, from index `at` on.
+// Stays with a way of its own for one byte, since a run is copied by a call (tried without: fed byte by byte, a proof takes 8 % more instructions).
 pub fn gather(item: &mut [u8; 32], at: usize, run: &[u8])
     requires { at + length run.now ≤ 32 }
     ensures { item.new ≡ sets item.old at run.now }

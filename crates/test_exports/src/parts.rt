@@ -1,4 +1,5 @@
 // The protocol's parts.
+// Stays (C interface): each call has the arguments of the call that it names.
 ghost use Rattle.std.specs.Prelude.{◌≡◌, ◌%◌, ◌/◌, [], ◌∷◌, length, take};
 ghost use Rattle.sha256.specs.Sha256.{sha256};
 ghost use Rattle.params.specs.Parameters as parameters;

@@ -1,4 +1,5 @@
 // The verdict on a whole proof, and the writer of one.
+// Stays (C interface): each call has the arguments of the call that it names, and is a twin of one of `exports`.
 ghost use Rattle.std.specs.Prelude.{◌≡◌};
 ghost use Rattle.sha256.specs.Sha256.{sha256};
 ghost use Rattle.params.specs.Admission.{terms_of};

@@ -43,7 +43,7 @@ impl Height {
 }
 
 // The values of leaf m, where so many leaves have so many values each.
-// Stays: the count is the step from one value of a leaf to the next, not a length, and no call copies by steps; no plainer.
+// Stays (no plainer): the count is the step from one value of a leaf to the next, not the length of the values.
 fn values_of(per: usize, count: usize, values: &[u32], m: usize) -> [u32; 4]
     requires { ((per ≤ 4) × (count ≤ 1073741824)) × ((m < count) × (length values.now ≡ per * count)) }
     ensures { take per result ≡ spec.values_of per count values.now m }

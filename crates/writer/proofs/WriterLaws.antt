@@ -1,4 +1,4 @@
--- The writer's tests, and the turns of its small loops. Assumes nothing.
+-- The writer's tests, and the final coefficients as the front of an array. Assumes nothing.
 use Prim.Native.Nat.{ℕ, ◌*◌, ◌^◌, ◌-◌, ◌≤◌, ◌<◌}
 use mathlib.Core.Bool.{Bool, true, ◌&&◌, cond}
 use mathlib.Core.List.{List, [], ◌∷◌}

@@ -12,6 +12,7 @@ mod checks;
 mod sections;
 
 // Writes the proof of the polynomial to the front of the output. The scratch is 2·2^n numbers and 64·2^n bytes, or more.
+// Stays with its buffers and terms apart (C interface; what may not change: the contract of `write`).
 pub fn write(
     p: Params,
     context: [u8; 32],

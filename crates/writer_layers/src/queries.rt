@@ -11,7 +11,7 @@ use crate::scratch::{Layer, Scratch};
 use transcript::Transcript;
 
 // The values of leaf m, where so many leaves have so many values each, in 4 bytes each.
-// Stays: the count is the step from one value of a leaf to the next, not a length; no plainer.
+// Stays (no plainer): the count is the step from one value of a leaf to the next, not the length of the values.
 fn put_values(per: usize, count: usize, values: &[u32], m: usize, file: &mut [u8], at: usize)
     requires { ((m < count) × (count ≤ 1073741824)) × ((length values.now ≡ per * count) × (at + 4 * per ≤ length file.old)) }
     ensures { file.new ≡ sets file.old at (words (values_of per count values.now m)) }
@@ -23,7 +23,7 @@ fn put_values(per: usize, count: usize, values: &[u32], m: usize, file: &mut [u8
 
 impl Scratch<'_> {
     // The opening of a leaf of a layer.
-    // Stays: a file and a place in it, as `Buffers` puts its parts; a slice from there on would take the sum into every call; no plainer.
+    // Stays a file and a place in it (no plainer: the model's `Buffers` puts each part at a place, and `&mut file[at..]` would stand at each call).
     fn opening(&self, index: u8, m: u32, file: &mut [u8], at: usize)
         requires layer_in { index < self.now.valid.params.k }
         requires leaf_in { m < leaf_count self.now.valid.params index }
