@@ -220,7 +220,10 @@ def check_forms():
                 fault(where, "an import that the audit cannot read, or a ghost member")
             if public and GHOST_MODEL.search(text):
                 fault(where, "a model of a struct where public contracts may speak of it")
-            for name, body in re.findall(r"^pub trait (\w+)[^{}\n]*\{\n(.*?)^\}", text, re.M | re.S):
+            traits = re.findall(r"^pub trait (\w+)[^{}\n]*\{\n(.*?)^\}", text, re.M | re.S)
+            if sum(a == "pub" and b == "trait" for a, b in zip(words, words[1:])) != len(traits):
+                fault(where, "a public trait that the audit cannot read")
+            for name, body in traits:
                 if "fn" in [t for t, _ in tokens(body)]:
                     fault(where, f"a public trait with a function: {name}")
             for a, b in zip(words, words[1:]):
@@ -443,8 +446,9 @@ def check_meaning(call):
                 fault(call.name, f"'{token}' is not from a specs file: {got[1]}")
 
 
-def check_ghost_fields():
-    """A fact that holds of every value of a struct, and what a trait or an impl says for contracts, mean what their words say, as a contract does."""
+def check_ghost_fields(listed):
+    """A fact that holds of every value of a struct, and what a trait or an impl says for contracts, mean what their words say, as a contract does. What
+    an impl says that a function of the library's traits gives (`from_gives`) pins it, as a contract does."""
     for crate in crates():
         for path, _, _ in source(crate):
             text = bare(path.read_text())
@@ -452,9 +456,16 @@ def check_ghost_fields():
             for name, body in re.findall(r"struct (\w+)(?:<[^>]*>)?\s*\{\n(.*?)^\}", text, re.M | re.S):
                 fields = ", ".join(f.strip() for f in GHOST_FIELD.sub("", body).replace("pub ", "").split(",") if f.strip())
                 for field, fact in GHOST_FIELD.findall(body):
+                    if listed:
+                        print(f"{crate}::{name}\n    {field}: {' '.join(fact.split())}")
                     check_meaning(Call(f"{crate}::{name}.{field}", False, fields, "", [], [" ".join(fact.split())], imports))
             for _, name, body in BLOCK.findall(text):
                 for member, _, said in GHOST_MEMBER.findall(body):
+                    if listed:
+                        print(f"{crate}::{name}\n    {member}: {said}")
+                    given = re.fullmatch(r"λ \w+\. λ (\w+)\. (\w+) ≡ (.*)", said)
+                    if member.endswith("_gives") and not (given and given[1] == given[2] and given[1] not in re.findall(r"\w+", given[3])):
+                        fault(f"{crate}::{name}.{member}", f"does not pin what is given: {said}")
                     said = re.sub(r"λ ([\w ]+)\.", lambda m: " ".join(f"λ {x}." for x in m.group(1).split()), said)
                     check_meaning(Call(f"{crate}::{name}.{member}", False, "", "", [], [said], imports, ["Self"]))
 
@@ -787,7 +798,7 @@ def audit(listed=False, write=False):
         if call.name not in OUTSIDE:
             check_tight(call, fields_of)
         check_meaning(call)
-    check_ghost_fields()
+    check_ghost_fields(listed)
     check_names()
     check_divisions()
     of_programs = [f for f in every if f.ensures and (f.name.split("::")[0] in OF_PROGRAMS or (ROOT / "crates" / f.name.split("::")[0] / "src" / "main.rt").exists())]

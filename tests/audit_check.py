@@ -62,6 +62,8 @@ CASES = [
     ("params::admitted: not what the value is", (PARAMS, "λ v. v.params ≡ p", "λ v. v.params ≡ v.params")),
     ("params::admitted: not an equation", (PARAMS, "λ v. v.params ≡ p", "λ v. Valid v.params"), (PARAMS, BEFORE, "ghost use Rattle.params.specs.Parameters.{Valid};\n" + BEFORE)),
     ("params::admitted: a result that may be refused", (PARAMS, "λ v. v.params ≡ p", "λ v. v.params ≡ p) × (result ≡ result")),
+    ("felt::From.from_gives: does not pin what is given", ("crates/felt/src/lib.rt", "answer ≡ told outcome", "answer ≡ answer")),
+    ("a public trait that the audit cannot read", (BUFFER, "pub trait Zero: Copy {", "pub trait Zero: Copy\nwhere\n    Self: Copy,\n{")),
     ("params::ValidParams.valid: 'Valid' comes from nowhere", (PARAMS, "spec.Valid params", "Valid params")),
     ("crates/verdict/src/kept.rt: a model of a struct where public contracts may speak of it", ("crates/verdict/src/lib.rt", "mod kept;", "pub mod kept;")),
     ("an import that the audit cannot read, or a ghost member", (PARAMS, "    pub ghost valid: { spec.Valid params },", "    pub ghost valid: {\n        spec.Valid params\n    },")),
