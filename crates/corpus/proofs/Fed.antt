@@ -1,7 +1,8 @@
 -- A job of so many bytes that is fed what a reader gives, and its answer.
 -- Assumes nothing.
-use Rattle.std.proofs.Common.{◌≡◌, ℕ, ◌+◌, ◌-◌, ◌≤◌, List, arith, length, length-append}
+use Rattle.std.proofs.Common.{◌≡◌, ℕ, ◌+◌, ◌-◌, ◌≤◌, List, [], arith, length, length-append}
 use Rattle.std.specs.Io.KnownBytes.{Consumes}
+use Rattle.std.proofs.KnownBytes.{Consumes-nil}
 use Rattle.std.specs.declared.option.Option.{Option}
 use Rattle.answer.specs.declared.Answer.{Answer}
 use Rattle.message.specs.Bytes.{joined}
@@ -18,7 +19,7 @@ pub record Fed (first now : Option (List ℕ)) (state : Job) (count rest : ℕ) 
 
 pub fed_none : (first : Option (List ℕ)) {state : Job} (count : ℕ) → state ≡ begun → Fed first first state count count
 unfolding joined
-fed_none first count e = record { bytes = job.fed_none first e; size = omega arith }
+fed_none first count e = record { bytes = record { chunks = []; reached = e; taken = Consumes-nil first }; size = omega arith }
 
 pub fed_more : (first old now : Option (List ℕ)) (state next : Job) (count rest more : ℕ) (chunk : List ℕ) → Fed first old state count rest
     → length chunk ≡ more → Consumes old now chunk → next ≡ fed_chunk state chunk → more ≤ rest → Fed first now next count (rest - more)
