@@ -1,13 +1,13 @@
 -- What lent buffers hold: a part that is put, and zeros that are stored turn by turn. Assumes nothing.
 use Prim.Native.Nat.{ℕ, suc, ◌+◌, ◌≤◌, ◌<◌}
-use mathlib.Core.List.{List, [], ◌∷◌, ◌++◌, append_assoc}
+use mathlib.Core.List.{List, [], ◌∷◌, ◌++◌}
 use mathlib.Core.Path.{◌≡◌, sym, ap, ◌∙◌}
 use native.Mathlib.Nat.{add-zero}
+use native.Mathlib.Numerals.{add-one}
 use native.Mathlib.Omega.{arith}
 use borrow.Author.Tests.{le-leb, lt-leb}
-use borrow.Rule.Slice.PartMut.{put_mid}
-use lib.ListN.{length, take, drop, set}
-use lib.Seq.{sets, sets-eq, drop-drop}
+use lib.ListN.{length, take, get_or, set}
+use lib.Seq.{sets, take-suc, take_all, length-take-le}
 use Rattle.buffer.specs.Buffer.{put}
 
 module _ {A : Type 0} where
@@ -27,9 +27,13 @@ module _ {A : Type 0} where
       ap (λ (k : ℕ). sets (sets (set l at x) (suc at) xs) k ys) (omega arith)
       ∙ sets-append (set l at x) xs ys (suc at)
 
-  -- A part that fits, copied into the room between at and its end.
-  pub put_copied : {ys : List A} (buffer : List A) (at : ℕ) (part : List A) {n : ℕ} → at + length part ≤ length buffer → n ≡ length part → ys ≡ part
-      → put_mid at n buffer ys ≡ put buffer at part
-  put_copied buffer at part h e copied =
-      rw (e, copied, drop-drop (length part) at buffer)
-      (sym (append_assoc (take at buffer) part (drop (at + length part) buffer)) ∙ sym (sets-eq part buffer at h) ∙ sym (put-fits buffer at part h))
+  -- A loop that copies s into l from index at on: one element more, and the end.
+  pub copy_more : {d : List A} {x : A} (y : A) (l s : List A) (at i : ℕ) → d ≡ sets l at (take i s) → i < length s → x ≡ get_or s i y
+      → set d (at + i) x ≡ sets l at (take (i + 1) s)
+  copy_more {d} {x} y l s at i e h is =
+      let long : length (take i s) ≡ i = length-take-le i s (omega arith) in
+      rw (e, add-one i, take-suc s i y h, sym is)
+      (ap (λ (k : ℕ). set (sets l at (take i s)) (at + k) x) (sym long) ∙ sets-append l (take i s) (x ∷ []) at)
+
+  pub copy_done : {d : List A} (l s : List A) (at i : ℕ) → d ≡ sets l at (take i s) → length s ≤ i → d ≡ sets l at s
+  copy_done l s at i e h = e ∙ ap (λ (x : List A). sets l at x) (take_all i s h)

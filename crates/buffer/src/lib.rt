@@ -9,7 +9,11 @@ pub fn put<T: Copy>(buffer: &mut [T], at: usize, part: &[T])
     ensures { buffer.new ≡ spec.put buffer.old at part.now }
 {
     if at <= buffer.len() && part.len() <= buffer.len() - at {
-        buffer[at..at + part.len()].copy_from_slice(part);
+        // Stays a loop (the C interface: the library's copy is a call of `memmove` wherever the compiler cannot see that the two lie apart, and what the
+        // libraries for C need from outside is `memcpy` and `memset`).
+        for i in 0..part.len() {
+            buffer[at + i] = part[i];
+        }
     }
 }
 
