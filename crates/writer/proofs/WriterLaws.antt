@@ -60,6 +60,10 @@ module _ (p : Params) (f : List ℕ) (numbers bytes output : ℕ) where
       unfolding tests
       few_bytes h = rw (in_order, v, eq-eqb _ _ count, below, le-leb _ _ enough, lt-leb _ _ h)
 
+      pub short-output : 64 * 2 ^ p.n ≤ bytes → output < file_length p → 32 ≡ number
+      unfolding tests
+      short-output room h = rw (in_order, v, eq-eqb _ _ count, below, le-leb _ _ enough, le-leb _ _ room, lt-leb _ _ h)
+
       pub none_fails : 64 * 2 ^ p.n ≤ bytes → file_length p ≤ output → 0 ≡ number
       unfolding tests
       none_fails room h = rw (in_order, v, eq-eqb _ _ count, below, le-leb _ _ enough, le-leb _ _ room, le-leb _ _ h)
