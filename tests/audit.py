@@ -3,7 +3,7 @@
 
 For each public call (a `pub fn` that another crate can name, and every exported function; not in a crate that only one other part may name) it
 prints signature and contract, and checks:
-  total     it has no `requires`;
+  total     it has no `requires`, and none by the type of an argument: no argument is a struct with a fact, whose caller would have to prove it;
   tight     it has an `ensures` whose facts are equations. On the left stands the result, a field of it, or what is left in something lent by
             `&mut`; or a record assembled of these alone. On the right stands a term in which neither the result nor anything left behind
             occurs, and no sign of logic. Together they pin the whole result and everything lent; of a reference in the result, what it points
@@ -43,7 +43,7 @@ IF_OK = ("Rattle.std.specs.Prelude", "IfOk")
 BLOCK = re.compile(r"^(?:pub )?(trait|impl) (\w+)[^{}\n]*\{\n(.*?)^\}", re.M | re.S)  # a trait or an impl, with what stands in it
 GHOST_MEMBER = re.compile(r"^    ghost (\w+)(:| =) \{ ([^{}\n]*) \};$", re.M)  # of a trait, what each impl says of its type; of an impl, what it says
 GHOST_FIELD = re.compile(r"^    (?:pub )?ghost (\w+): \{ ([^{}\n]*) \},$", re.M)  # a fact that holds of every value of a struct
-GHOST_MODEL = re.compile(r"^    ghost (?:Value|view|invariant) = \{ [^{}\n]* \};$", re.M)  # what contracts see of a struct, in a module of which no public contract speaks
+GHOST_MODEL = re.compile(r"^    ghost (?:Value|view|invariant) = \{ [^{}\n]* \};$", re.M)  # what contracts see of a struct, of which no public call speaks
 OUTSIDE = set()  # public calls whose result no contract can pin: none
 BY_POWERS_OF_TWO = ["field", "felt", "fold"]  # their code, and what it calls, divides and takes remainders by nothing else (request 2026-03)
 WRAPPING = re.compile(r"wrapping_(add|sub)_u(8|16|32|64)")  # what that code may call of std::num
@@ -100,10 +100,11 @@ def balanced(text, at, opening, closing):
 
 
 class Call:
-    """A function with its contract. `bounds` are the ghost members that its type parameters have from traits of its file, as `T.ZERO`."""
+    """A function with its contract. `bounds` are the ghost members that its type parameters have from traits of its file, as `T.ZERO`; `generics` is
+    what stands between its name and its arguments."""
 
-    def __init__(self, name, public, params, result, requires, ensures, imports, bounds=()):
-        self.name, self.public, self.params, self.result = name, public, params, result
+    def __init__(self, name, public, params, result, requires, ensures, imports, bounds=(), generics=""):
+        self.name, self.public, self.generics, self.params, self.result = name, public, generics, params, result
         self.requires, self.ensures, self.imports, self.bounds = requires, ensures, imports, set(bounds)
 
 
@@ -136,6 +137,14 @@ def imports_of(text, keyword, where=None):
     return found
 
 
+def owner_of(head):
+    """The type whose `impl` begins so."""
+    while (less := re.sub(r"<[^<>]*>", "", head)) != head:
+        head = less
+    names = re.findall(r"\b[A-Z]\w*", head.partition(" where ")[0])
+    return names[-1] if names else None
+
+
 def functions(text, crate, module, public_module, where=None):
     """Every function of a source file. What has another form than it knows is a fault of `where`."""
     text = bare(text)
@@ -146,8 +155,7 @@ def functions(text, crate, module, public_module, where=None):
     owners, owner, depth = [], None, 0  # the `impl` that each token stands in
     for i, t in enumerate(words):
         if t == "impl" and depth == 0:
-            names = [w for w in words[i + 1 : words.index("{", i)] if re.match(r"[A-Z]", w)]
-            owner = names[-1] if names else None
+            owner = owner_of(" ".join(words[i + 1 : words.index("{", i)]))
         depth += (t == "{") - (t == "}")
         owners.append(owner if depth else None)
         if depth == 0 and t == "}":
@@ -181,7 +189,7 @@ def functions(text, crate, module, public_module, where=None):
             clauses[m.group(1)].append(m.group(2) + " ".join(text[m.end() : close - 1].split()))
             end = close + len(text[close:]) - len(text[close:].lstrip())
         whole = "::".join([crate] + ([module] if module else []) + ([owners[i]] if owners[i] else []) + [name])
-        yield Call(whole, exported or (public and public_module), params, result, clauses["requires"], clauses["ensures"], imports, bounds)
+        yield Call(whole, exported or (public and public_module), params, result, clauses["requires"], clauses["ensures"], imports, bounds, text[stream[i + 1][1] + len(name) : at])
 
 
 def source(crate):
@@ -226,6 +234,10 @@ def check_forms():
             for name, body in traits:
                 if "fn" in [t for t, _ in tokens(body)]:
                     fault(where, f"a public trait with a function: {name}")
+                if any(said != "Self" for _, _, said in GHOST_MEMBER.findall(body)):
+                    fault(where, f"a public trait that asks for a fact: {name}")
+            for m in re.finditer(r"^(?!ghost )[^\n]*\buse\b[^;]*?\bas\b[^;]*;", text, re.M):
+                fault(where, f"an import under another name: {' '.join(m.group().split())}")
             for a, b in zip(words, words[1:]):
                 if a == "pub" and not (b in {"fn", "extern", "mod", "struct", "enum", "const"} or b.isidentifier() and b not in {"use", "type"}):
                     fault(where, f"'pub {b}'")
@@ -254,6 +266,54 @@ def structs():
                 held = [f.replace("pub", "").partition(":") for f in fields.split(",") if f.strip()]
                 found[name] = {f.strip() for f, _, _ in held} | {f"{f.strip()}.ref_ptr" for f, _, kind in held if kind.strip().startswith("&")}
     return found
+
+
+def item(text, at):
+    """What belongs to the struct, enum or type that begins at `at`."""
+    depth = 0
+    for i in range(at, len(text)):
+        depth += (text[i] in "([{") - (text[i] in ")]}")
+        if depth == 0 and text[i] in ";}":
+            return text[at : i + 1]
+    raise ValueError("brackets")
+
+
+def kinds_with(held, bodies):
+    """The names of `held`, and of every type that has one of them within."""
+    while True:
+        more = {name for name, body in bodies.items() if name not in held and held & set(re.findall(r"\w+", body))}
+        if not more:
+            return held
+        held = held | more
+
+
+def guarded():
+    """The types of whose values a fact holds, and those that contracts see through a model; each with the types that have one within."""
+    bodies, modelled = {}, set()
+    for crate in crates():
+        for path, _, _ in source(crate):
+            text = bare(path.read_text())
+            for m in re.finditer(r"\b(?:struct|enum|union|type)\s+(?:r#)?(\w+)", text):
+                bodies[m.group(1)] = bodies.get(m.group(1), "") + item(text, m.end())
+            modelled |= {owner_of(head) for head in re.findall(r"\bimpl\b([^{};]*?\bModel\s+for\s[^{};]*)", text)}
+    return kinds_with({name for name, body in bodies.items() if re.search(r"\bghost\b", body)}, bodies), kinds_with(modelled, bodies)
+
+
+def check_total(call, facts, modelled):
+    """It asks nothing of its callers: neither by a clause, nor by a type whose values they would have to prove something of. And nothing is told of it
+    through a model, whose equations may pin less than the value."""
+    if call.requires:
+        fault(call.name, "has a requires")
+    taken = parameters(call)
+    given, _, bounds = call.result.partition("where")
+    kinds = set(re.findall(r"\w+", " ".join([*taken.values(), call.generics, bounds])))
+    owner = set(call.name.split("::")[-2:-1])
+    if {"impl", "dyn"} & (kinds | set(re.findall(r"\w+", given))):
+        fault(call.name, "a type that the audit cannot read: impl or dyn")
+    for name in sorted((kinds | (owner if "self" in taken or "Self" in kinds else set())) & facts):
+        fault(call.name, f"asks of its callers by a type: {name}")
+    for name in sorted((kinds | owner | set(re.findall(r"\w+", call.result))) & modelled):
+        fault(call.name, f"speaks of {name}, which contracts see through a model")
 
 
 def parameters(call):
@@ -519,10 +579,13 @@ def check_names():
         fault(path.relative_to(ROOT), "unfinished")
 
 
+GHOST_LINE = re.compile(r"^ +(?:pub )?ghost (?!use\b)[^\n]*$", re.M)  # a fact of a struct, or what a trait or an impl says
+
+
 @cache
 def without_contracts(text):
-    """The code alone: no comments, no imports of definitions, no contracts."""
-    text = re.sub(r"^ *ghost use [^;]*;", "", bare(text), flags=re.M)
+    """The code alone: no comments, no imports of definitions, no contracts, no facts of types."""
+    text = GHOST_LINE.sub("", re.sub(r"^ *ghost use [^;]*;", "", bare(text), flags=re.M))
     while m := re.search(r"\b(?:requires|ensures)\*?(?:\s+\w+)?\s*\{", text):
         text = text[: m.start()] + text[balanced(text, m.end() - 1, "{", "}") :]
     return text.split()
@@ -566,7 +629,8 @@ def contracts(text):
 
 
 def kinds_of(before, after):
-    """What an edit changes: code, the contract of a function that is there, definitions or proofs. `before` and `after` are path → text."""
+    """What an edit changes: code, the contract of a function or the fact of a type that is there, definitions or proofs. `before` and `after` are
+    path → text."""
     kinds = set()
     for path in before:
         part = path.parts[0]
@@ -576,7 +640,8 @@ def kinds_of(before, after):
         if without_contracts(before[path]) != without_contracts(after[path]):
             kinds.add("code")
         stated = [contracts(text) for text in (before[path], after[path])]
-        if any(stated[1].get(name) != contract for name, contract in stated[0].items()):
+        facts = [GHOST_LINE.findall(bare(text)) for text in (before[path], after[path])]
+        if any(stated[1].get(name) != contract for name, contract in stated[0].items()) or facts[0] != facts[1]:
             kinds.add("contract")
     return kinds
 
@@ -782,6 +847,7 @@ def audit(listed=False, write=False):
     check_forms()
     check_within()
     fields_of = structs()
+    asking = guarded()
     every = read_all()
     calls = [f for f in every if f.public and f.name.split("::")[0] not in WITHIN]
     for call in calls:
@@ -791,8 +857,7 @@ def audit(listed=False, write=False):
                 print(f"    requires {clause}")
             for clause in call.ensures:
                 print(f"    ensures {clause}")
-        if call.requires:
-            fault(call.name, "has a requires")
+        check_total(call, *asking)
         if not call.ensures:
             fault(call.name, "has no ensures")
         if call.name not in OUTSIDE:

@@ -19,12 +19,26 @@ PUT = "    ensures { buffer.new ≡ spec.put buffer.old at part.now }"
 # a function that is public and asks for something, behind the words that make it public
 ASKS = "(a: u32) -> u32\n    requires { a < 5 }\n{\n    a + 1\n}\n\n"
 SOURCE = "ghost use Rattle.std.specs.Prelude.{◌<◌};\npub fn evil" + ASKS
+LENGTH = "pub fn file_length(p: Params) -> usize\n"
 EDIT = "crates/fold/must-fail/scale_adds_one.edit"
+CLOSES = "crates/params/must-fail/admission_refuses_as_closed.edit"
 TWICE = "old: field::add(x, x)\nnew: field::add(x, 1)"
 
 # what the audit must say; then the changes: file, old text, new text (a file that is not there is made of the new text)
 CASES = [
     # total
+    ("params::file_length: asks of its callers by a type: ValidParams", (PARAMS, LENGTH, LENGTH.replace("p: Params", "p: ValidParams"))),
+    ("params::file_length: asks of its callers by a type: Wrapped", (PARAMS, LENGTH, "pub struct Wrapped {\n    pub inside: ValidParams,\n}\n\n" + LENGTH.replace("p: Params", "p: &Wrapped"))),
+    ("params::file_length: asks of its callers by a type: Alias", (PARAMS, LENGTH, "type Alias = ValidParams;\n\n" + LENGTH.replace("p: Params", "p: Alias"))),
+    ("params::ValidParams::file_length: asks of its callers by a type: ValidParams", (PARAMS, "    fn file_length(self)", "    pub fn file_length(self)")),
+    ("params::file_length: asks of its callers by a type: ValidParams", (PARAMS, LENGTH, LENGTH.replace("(p: Params)", "<T: Into<ValidParams>>(p: T)"))),
+    ("params::file_length: asks of its callers by a type: Wrapped", (PARAMS, LENGTH, "pub struct\nWrapped {\n    pub inside: ValidParams,\n}\n\n" + LENGTH.replace("p: Params", "p: Wrapped"))),
+    ("params::file_length: asks of its callers by a type: Alias", (PARAMS, LENGTH, "type Alias = ([u8; 2], ValidParams);\n\n" + LENGTH.replace("p: Params", "p: Alias"))),
+    ("params::ValidParams::file_length: asks of its callers by a type: ValidParams", (PARAMS, "    fn file_length(self)", "    pub fn file_length(other: Self)")),
+    ("params::Held::seen: asks of its callers by a type: Held", (PARAMS, LENGTH, "pub struct Held<T> {\n    pub inside: T,\n    pub ghost fine: { spec.Valid inside },\n}\n\nimpl<T: Copy> Held<T> {\n    pub fn seen(self) -> usize\n        ensures { result ≡ spec.file_length self }\n    {\n        0\n    }\n}\n\n" + LENGTH)),
+    ("an import under another name: use params::ValidParams as Plain;", ("crates/look_up/src/lib.rt", "use params::Params;", "use params::Params;\nuse params::ValidParams as Plain;")),
+    ("verdict::opened: speaks of Kept, which contracts see through a model", ("crates/verdict/src/lib.rt", "// The proof in one piece.\n", "pub fn opened(a: Terms) -> Kept\n    ensures { result ≡ judge.opened a }\n{\n    Kept::default()\n}\n\n// The proof in one piece.\n")),
+    ("a public trait that asks for a fact: Zero", (BUFFER, "    ghost ZERO: { Self };\n", "    ghost ZERO: { Self };\n\n    ghost small: { ZERO ≡ ZERO };\n")),
     ("params::height: has no ensures", ("crates/params/src/lib.rt", "    ensures { result ≡ spec.height p layer }\n", "")),
     ("field::add: has a requires", (FIELD, f"    ensures {{ {SUM} }}", f"    requires {{ a < p }}\n    ensures {{ {SUM} }}")),
     ("field::add: has a requires", (FIELD, f"    ensures {{ {SUM} }}", f"    requires small {{ a < p }}\n    ensures {{ {SUM} }}")),
@@ -114,6 +128,7 @@ CASES = [
     ("fold::scale: has 1 wrong programs", (EDIT, "# of fold::scale\n", "# of fold::folded\n")),
     ("fold::scale: has 1 wrong programs", (EDIT, TWICE, "old: { result ≡ spec.scale x }\nnew: { result ≡ x }")),
     ("fold::scale: has 1 wrong programs", (EDIT, "file: ", "file: specs/Fold.antt\nold: -- 2·x\nnew: -- x·2\nfile: ")),
+    ("params::admission: has 1 wrong programs", (CLOSES, "old: Err(refusal) => refusal.number(),", "old:     pub ghost valid: { spec.Valid params },"), (CLOSES, "new: Err(_) => Refusal::Closed.number(),", "new:     pub ghost valid: { spec.Valid params × spec.Valid params },")),
     ("changes neither code nor a statement", (EDIT, TWICE, "old: // What the scale times\nnew: // What the scale")),
     ("docs/WRONG-PROGRAMS.md: is not what the edits say", ("docs/WRONG-PROGRAMS.md", "There are ", "There are 9")),
     ("docs/WRONG-PROGRAMS.md: is not what the edits say", ("crates/fold/must-fail/one_more.edit", None, "# of fold::scale\nfile: src/lib.rt\n" + TWICE + "\n")),
